@@ -1,0 +1,121 @@
+//! The tokens of a source: words, numbers, formats and marks, each with its place.
+use crate::Span;
+use sqlite_items::Items;
+
+/// A token and the bytes that it stands at.
+#[derive(Debug, Drop)]
+pub struct Token {
+    pub kind: Kind,
+    pub span: Span,
+}
+
+/// What a token is. A `Number` is from 0 to 2147483647. A `Format` is 0 for `"%d"`, 1 for `"%d\n"` and 2 for `"%d "`.
+#[derive(Debug, Drop)]
+pub enum Kind {
+    Name(Items<u8>),
+    Number(i32),
+    Keyword(Keyword),
+    Format(u8),
+    Mark(Mark),
+}
+
+/// The reserved words: C11's (6.4.1), and `scanf` and `printf`, which this language reserves.
+#[derive(Clone, Copy, PartialEq, Eq, Debug)]
+pub enum Keyword {
+    Auto,
+    Break,
+    Case,
+    Char,
+    Const,
+    Continue,
+    Default,
+    Do,
+    Double,
+    Else,
+    Enum,
+    Extern,
+    Float,
+    For,
+    Goto,
+    If,
+    Inline,
+    Int,
+    Long,
+    Register,
+    Restrict,
+    Return,
+    Short,
+    Signed,
+    Sizeof,
+    Static,
+    Struct,
+    Switch,
+    Typedef,
+    Union,
+    Unsigned,
+    Void,
+    Volatile,
+    While,
+    Alignas,
+    Alignof,
+    Atomic,
+    Bool,
+    Complex,
+    Generic,
+    Imaginary,
+    Noreturn,
+    StaticAssert,
+    ThreadLocal,
+    Scanf,
+    Printf,
+}
+
+/// The marks. A word in each name says what the mark looks like, not what it means, where it means several things.
+#[derive(Clone, Copy, PartialEq, Eq, Debug)]
+pub enum Mark {
+    OpenRound,
+    CloseRound,
+    OpenCurly,
+    CloseCurly,
+    OpenSquare,
+    CloseSquare,
+    Semicolon,
+    Comma,
+    Dot,
+    Arrow,
+    Assign,
+    PlusAssign,
+    MinusAssign,
+    StarAssign,
+    SlashAssign,
+    PercentAssign,
+    AndAssign,
+    OrAssign,
+    XorAssign,
+    ShlAssign,
+    ShrAssign,
+    PlusPlus,
+    MinusMinus,
+    Plus,
+    Minus,
+    Star,
+    Slash,
+    Percent,
+    Amp,
+    Bar,
+    Caret,
+    Tilde,
+    Bang,
+    AmpAmp,
+    BarBar,
+    Less,
+    LessEqual,
+    Greater,
+    GreaterEqual,
+    Equal,
+    NotEqual,
+    Shl,
+    Shr,
+    Question,
+    Colon,
+}
