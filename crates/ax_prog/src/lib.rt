@@ -4,6 +4,7 @@
 #![tactic(auto)]
 
 pub mod copy;
+pub mod same;
 pub mod tokens;
 
 use sqlite_items::{Boxed, Items};
