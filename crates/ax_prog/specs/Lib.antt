@@ -1,0 +1,4 @@
+pub mod Nodes
+pub mod Candidates
+pub mod Substitution
+pub mod Same

@@ -4,9 +4,16 @@
 #![tactic(auto)]
 
 pub mod copy;
+pub mod nodes;
+pub mod same;
+mod slots;
 pub mod tokens;
 
+use copy::{copy_funs, copy_globals, copy_structs, copy_vars};
+use nodes::is_small_tree;
+use slots::{slot_id, with_slot_tree};
 use sqlite_items::{Boxed, Items};
+use std::alloc::{AllocError, Global};
 
 #[derive(Clone, Copy, PartialEq, Eq, Debug)]
 pub struct Span {
@@ -176,6 +183,59 @@ pub struct Program {
     pub funs: Items<Fun>,
     pub main: FunId,
     pub slots: Items<Slot>,
+}
+
+impl Program {
+    ghost use Rattle.std.specs.Prelude.{◌≡◌, ◌<◌, length, Some, IfOk};
+    ghost use Rattle.ax_prog.specs.Candidates.{candidates_of, tree_at};
+    ghost use Rattle.ax_prog.specs.Substitution.{Fits, substituted};
+
+    /// The candidates, which are the slots of at most 31 nodes, in source order. A program whose slots have no
+    /// number of 32 bits fits no memory, and is answered as want of memory.
+    pub fn candidates(&self, alloc: Global) -> Result<Items<SlotId>, AllocError>
+        ensures { IfOk result (λ ids. ids ≡ candidates_of self.now) }
+    {
+        let mut ids = Items::new(alloc);
+        let mut at: u64 = 0;
+        for slot in self.slots.as_slice() {
+            let id = slot_id(at)?;
+            if is_small_tree(&slot.expr) {
+                ids.push(id)?;
+            }
+            at += 1;
+        }
+        Ok(ids)
+    }
+
+    /// The tree of the slot of that number.
+    pub fn expr_at(&self, id: SlotId) -> &Expr
+        requires { id.0 < length self.now.slots }
+        ensures { tree_at self.now id ≡ Some result.now }
+    {
+        &self.slots.as_slice()[id.0 as usize].expr
+    }
+
+    /// The program with the tree of the slot of that number replaced. All else stays, the slot's `scope` and
+    /// `atoms` too.
+    pub fn substitute(&self, alloc: Global, id: SlotId, tree: Expr) -> Result<Program, AllocError>
+        requires slot { id.0 < length self.now.slots }
+        requires fits { Fits self.now id tree }
+        ensures { IfOk result (λ it. it ≡ substituted self.now id tree) }
+    {
+        let structs = copy_structs(alloc, self.structs.as_slice())?;
+        let vars = copy_vars(alloc, self.vars.as_slice())?;
+        let globals = copy_globals(alloc, self.globals.as_slice())?;
+        let funs = copy_funs(alloc, self.funs.as_slice())?;
+        let slots = with_slot_tree(alloc, self.slots.as_slice(), id, tree)?;
+        Ok(Program {
+            structs,
+            vars,
+            globals,
+            funs,
+            main: self.main,
+            slots,
+        })
+    }
 }
 
 /// One test of a suite: the numbers handed in, the numbers wanted, and the number that `main` is to return.
