@@ -13,6 +13,16 @@ pub record Seen : Type 0 where
   pub puts : List ℕ → ℕ
   pub prints : ℕ
 
+-- what a shelf shows that tells no bytes and has one count for all its faults
+abbrev pub untold : ℕ → Seen
+untold faults = record {
+  kept = λ _. None;
+  printed = None;
+  reads = λ _. faults;
+  puts = λ _. faults;
+  prints = faults;
+}
+
 -- the count has risen, or stands at the end of its type
 abbrev pub Rose : ℕ → ℕ → Type 0
 Rose before now = min (before + 1) (2 ^ 64 - 1) ≤ now

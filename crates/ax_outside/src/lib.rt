@@ -4,10 +4,18 @@
 //! in memory and fails where it is told to, and [`Endless`] has a file that never ends.
 #![tactic(auto)]
 
+mod endless;
+mod files;
 mod host;
+mod memory;
 mod reading;
 mod shelf;
 
+pub use endless::Endless;
 pub use host::HostShelf;
+pub use memory::MemShelf;
 pub use reading::{ReadFault, read_all};
 pub use shelf::{Failed, Shelf};
+
+#[cfg(test)]
+mod tests;

@@ -1,15 +1,20 @@
+//! A file read whole, in pieces.
 ghost use Rattle.std.specs.Prelude.{◌≡◌, ◌≤◌, ◌<◌, IfOk, IsErrOf, length};
 ghost use Rattle.ax_outside.specs.Seen.{IsWhole, NoLess, OnKept, Rose, Same};
 ghost use Rattle.ax_outside.specs.declared.reading.ReadFault.TheVariants.{Memory};
 
 use crate::{Failed, Shelf};
 use std::alloc::{AllocError, Global};
+use thiserror::Error;
 
-/// Why a file wasn't read whole: it has more bytes than the limit, a read failed, or memory is missing.
-#[derive(Clone, Copy, Debug, PartialEq, Eq)]
+/// Why a file wasn't read whole.
+#[derive(Clone, Copy, Debug, PartialEq, Eq, Error)]
 pub enum ReadFault {
+    #[error("the file has more bytes than the limit")]
     TooLong,
+    #[error("a read failed")]
     Failed,
+    #[error("out of memory")]
     Memory,
 }
 

@@ -1,9 +1,13 @@
+//! What a shelf is.
 ghost use Rattle.std.specs.Prelude.{◌≤◌};
 ghost use Rattle.std.specs.Io.{ReadsAtMost};
 ghost use Rattle.ax_outside.specs.Seen.{Seen, Read, Put, Print};
 
+use thiserror::Error;
+
 /// A call of a shelf failed. The shelf has counted the fault.
-#[derive(Clone, Copy, Debug, PartialEq, Eq)]
+#[derive(Clone, Copy, Debug, PartialEq, Eq, Error)]
+#[error("the outside refused a call")]
 pub struct Failed;
 
 /// Files by name, and a stream that is printed to.
