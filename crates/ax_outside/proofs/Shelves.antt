@@ -1,13 +1,13 @@
 -- A shelf in memory does what every shelf does.
-use Rattle.std.proofs.Common.{◌≡◌, ◌≢◌, ◌∙◌, ◌≤◌, ◌++◌, ◌||◌, ℕ, Bool, true, false, cond, List, [], ◌∷◌, take, Option, None, Some, is_some, Err, refl, sym, ap, inl, inr, arith}
+use Rattle.std.proofs.Common.{◌≡◌, ◌≢◌, ◌∙◌, ◌≤◌, ℕ, Bool, true, false, cond, List, [], take, Option, None, Some, Err, refl, sym, ap, inl, inr, arith}
 use Rattle.std.specs.Prelude.{if◌then◌else◌}
 use Rattle.std.specs.Bool.{Decides}
 use Rattle.std.specs.Str.{bytes_eq}
 use Rattle.std.proofs.lemmas.List.{append-nil}
 use Rattle.std.proofs.lemmas.Slice.Eq.{bytes_eq-Decides}
 use Rattle.ax_outside.specs.declared.shelf.Failed.{Failed}
-use Rattle.ax_outside.specs.Seen.{IsPrefix, Print, Put, Read, Seen}
-use Rattle.ax_outside.specs.Memory.{Shelved, failed, has_room, is_due, kept_in, one_more, print_part, put_part, seen_of, torn_at, torn_print, torn_put, with_file, with_text}
+use Rattle.ax_outside.specs.Seen.{IsPrefix, Print, Put, Read}
+use Rattle.ax_outside.specs.Memory.{Shelved, failed, kept_in, print_part, put_part, seen_of, torn_print, torn_put, with_file, with_text}
 
 pub read-fails : (s t : Shelved) (name : List ℕ) (from : ℕ) (into : List ℕ) (e : Failed)
     → t ≡ failed s → s.faults ≤ t.faults → Read (seen_of s) (seen_of t) name from into (Err e)

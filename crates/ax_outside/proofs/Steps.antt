@@ -1,8 +1,8 @@
 -- Calls of a shelf one after another.
-use Rattle.std.proofs.Common.{◌≡◌, ◌∙◌, ◌≤◌, ◌<◌, ◌+◌, ◌-◌, ◌++◌, subst, ℕ, List, [], length, take, drop, Option, None, Some, sym, refl, ap, ap₂, arith, rules}
+use Rattle.std.proofs.Common.{◌≡◌, ◌∙◌, ◌≤◌, ◌<◌, ◌+◌, ◌++◌, subst, ℕ, List, [], length, take, drop, None, Some, sym, refl, ap, ap₂, arith}
 use Rattle.std.proofs.Math.Seq.{take-add}
 use Rattle.std.proofs.lemmas.List.{length-take, length-take-le, length-append, take_all}
-use Rattle.ax_outside.specs.Seen.{Told, Seen, Same, NoLess, Reads, Gives, OnKept, IsWhole}
+use Rattle.ax_outside.specs.Seen.{Told, Seen, Same, NoLess, Reads, OnKept, IsWhole}
 
 -- the bytes that a reader has taken so far, from the file's start; of a missing file, none
 abbrev pub Taken : Told → List ℕ → Type 0

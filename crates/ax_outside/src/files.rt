@@ -88,7 +88,12 @@ pub(crate) fn copy_from(bytes: &[u8], from: u64, into: &mut [u8]) -> usize
 }
 
 // Makes room for three numbers of bytes together.
-pub(crate) fn reserve(log: &mut Vec<u8>, name: usize, bytes: usize, left: usize) -> Result<(), AllocError>
+pub(crate) fn reserve(
+    log: &mut Vec<u8>,
+    name: usize,
+    bytes: usize,
+    left: usize,
+) -> Result<(), AllocError>
     ensures items { log.new.items ≡ log.old.items }
     ensures len { vec_len log.new ≡ vec_len log.old }
     ensures capacity { vec_capacity log.old ≤ vec_capacity log.new }

@@ -43,14 +43,14 @@ impl Model for MemShelf {
     ghost use Rattle.ax_outside.specs.Files.{files_of, IsStored};
 
     ghost view = { λ s. record {
-        files = files_of s.log.items s.files.items;
-        printed = s.printed.items;
-        fails = s.fails.items;
-        tears = s.tears.items;
-        calls = s.calls;
-        faults = s.faults;
-        calls_left = s.calls_left;
-        bytes_left = s.bytes_left
+      files = files_of s.log.items s.files.items;
+      printed = s.printed.items;
+      fails = s.fails.items;
+      tears = s.tears.items;
+      calls = s.calls;
+      faults = s.faults;
+      calls_left = s.calls_left;
+      bytes_left = s.bytes_left;
     } };
 
     ghost invariant = { λ s. IsStored s.log s.files s.printed s.calls_left s.bytes_left };

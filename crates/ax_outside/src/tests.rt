@@ -59,7 +59,12 @@ fn memory_fails_where_it_is_told_to(rt: HostRuntime) -> Result<(), Fail> {
     for step in STEPS {
         assert!(rt; is_answered(&mut shelf, step), "at {step:?}");
     }
-    for (name, want) in [("s", Some("abc")), ("c", Some("hello")), ("o", Some("wi")), ("", None)] {
+    for (name, want) in [
+        ("s", Some("abc")),
+        ("c", Some("hello")),
+        ("o", Some("wi")),
+        ("", None),
+    ] {
         assert!(rt; is_kept(&shelf, name, want), "under {name}");
     }
     assert_eq!(rt; shelf.printed(), b"abz".as_slice());
@@ -73,15 +78,24 @@ fn files_are_read_whole(rt: HostRuntime) -> Result<(), Fail> {
     let mut inner = MemShelf::new(alloc);
     let long = vec![in alloc; 7u8; 5000]?;
     inner.keep("long", &long)?;
-    assert_eq!(rt; read_all(alloc, &mut inner, "long", 4999), Err(ReadFault::TooLong));
+    assert_eq!(rt;
+        read_all(alloc, &mut inner, "long", 4999),
+        Err(ReadFault::TooLong)
+    );
     let whole = read_all(alloc, &mut inner, "long", 5000)?;
     assert_eq!(rt; whole.as_slice(), long.as_slice());
     let mut shelf = Endless {
         inner,
         name: String::from_str(alloc, "endless")?,
     };
-    assert_eq!(rt; read_all(alloc, &mut shelf, "endless", 10_000), Err(ReadFault::TooLong));
-    assert_eq!(rt; read_all(alloc, &mut shelf, "none", 10_000), Err(ReadFault::Failed));
+    assert_eq!(rt;
+        read_all(alloc, &mut shelf, "endless", 10_000),
+        Err(ReadFault::TooLong)
+    );
+    assert_eq!(rt;
+        read_all(alloc, &mut shelf, "none", 10_000),
+        Err(ReadFault::Failed)
+    );
     Ok(())
 }
 
@@ -96,6 +110,9 @@ fn the_system_keeps_what_is_put(rt: HostRuntime) -> Result<(), Fail> {
     assert_eq!(rt; whole.as_slice(), b"second".as_slice());
     assert_eq!(rt; shelf.print(b"printed\n"), Ok(()));
     std::fs::remove_file(&rt, name)?;
-    assert_eq!(rt; read_all(alloc, &mut shelf, name, 100), Err(ReadFault::Failed));
+    assert_eq!(rt;
+        read_all(alloc, &mut shelf, name, 100),
+        Err(ReadFault::Failed)
+    );
     Ok(())
 }

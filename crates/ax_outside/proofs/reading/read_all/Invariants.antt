@@ -1,5 +1,5 @@
-use Rattle.std.proofs.Common.{◌≡◌, ◌+◌, ◌-◌, ◌≤◌, ℕ, length, take, vec_len}
-use Rattle.ax_outside.specs.Seen.{NoLess, Same, Seen}
+use Rattle.std.proofs.Common.{◌+◌, ◌-◌, vec_len}
+use Rattle.ax_outside.specs.Seen.{NoLess, Same}
 use Rattle.ax_outside.proofs.Steps.{Taken}
 use Rattle.ax_outside.proofs.reading.read_all.Given as goal
 
