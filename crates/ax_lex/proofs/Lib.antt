@@ -1,0 +1,10 @@
+pub mod Splice
+pub mod Texts
+pub mod Turns
+pub mod Unique
+pub mod Exact
+mod Numerals
+mod Comments
+mod Includes
+mod Firsts
+pub mod Results

@@ -1,0 +1,2 @@
+//! Worked examples.
+use crate::{LexFault, lex};
