@@ -22,7 +22,7 @@ use Rattle.ax_lex.proofs.Splice.{ArePieces-parts}
 use Rattle.ax_lex.proofs.Turns.{tokens_of-append}
 
 -- a digit begins a numeral
-number_first : (w : Text) (n : ℕ) → number_of w ≡ Some n → (d : ℕ) × (t : Text) × (w ≡ d ∷ t) × (is_ascii_digit d ≡ true)
+pub number_first : (w : Text) (n : ℕ) → number_of w ≡ Some n → (d : ℕ) × (t : Text) × (w ≡ d ∷ t) × (is_ascii_digit d ≡ true)
 number_first [] n h = absurd (none-some n h)
 number_first (d ∷ t) n h = (d, t, refl, first d t n h)
   where
@@ -43,7 +43,7 @@ number_first (d ∷ t) n h = (d, t, refl, first d t n h)
         below_ten d false x = grind (arith, nat_tests)
 
 -- a numeral that goes on with a byte goes on with one that extends it
-extended : (w : Text) (b : ℕ) (m : Text) (i j : ℕ) → number_of w ≡ Some i → number_of (w ++ b ∷ m) ≡ Some j → extends w b ≡ true
+pub extended : (w : Text) (b : ℕ) (m : Text) (i j : ℕ) → number_of w ≡ Some i → number_of (w ++ b ∷ m) ≡ Some j → extends w b ≡ true
 extended [] b m i j h g = absurd (none-some i h)
 extended (d ∷ []) b m i j h g = ⊎_elim
     (λ (x : is_hex (d ∷ b ∷ m) ≡ true).
@@ -65,12 +65,12 @@ extended (d ∷ y ∷ t) b m i j h g = ⊎_elim
       or_left (ltb (digit b) (base_of (d ∷ y ∷ t))) (same (d ∷ y ∷ t) (48 ∷ []) && (eqb b 120 || eqb b 88)) (rw x (list_all-at (λ c. ltb (digit c) base) (d ∷ y ∷ t) b m all)))
     (cases_Bool (is_hex (d ∷ y ∷ t)))
 
-no_empty : (kind : Kind) → kind_of [] ≡ Some kind → ⊥
+pub no_empty : (kind : Kind) → kind_of [] ≡ Some kind → ⊥
 unfolding format_of mark_of
 no_empty kind h = none-some kind h
 
 -- the token at a numeral's place is a number, and of the numeral's text
-number_same : (w r u x : Text) (n : ℕ) (kind : Kind) → number_of w ≡ Some n → AtHead r (λ b. extends w b ≡ false) → w ++ r ≡ u ++ x → kind_of u ≡ Some kind → AtHead x (λ b. continues u b ≡ false) → (u ≡ w) × (r ≡ x) × (n ≤ 2147483647)
+pub number_same : (w r u x : Text) (n : ℕ) (kind : Kind) → number_of w ≡ Some n → AtHead r (λ b. extends w b ≡ false) → w ++ r ≡ u ++ x → kind_of u ≡ Some kind → AtHead x (λ b. continues u b ≡ false) → (u ≡ w) × (r ≡ x) × (n ≤ 2147483647)
 number_same w r [] x n kind num ends split is stops = absurd (no_empty kind is)
 number_same w r (c ∷ u) x n kind num ends split is stops =
     let f = number_first w n num in
@@ -100,7 +100,7 @@ number_same w r (c ∷ u) x n kind num ends split is stops =
         let there : extends w b ≡ false = subst (λ (y : Text). AtHead y (λ b. extends w b ≡ false)) to ends in
         absurd (false≢true (sym there ∙ extended w b m n j num (ap number_of (sym is) ∙ other)))
 
-number_sort : (w r : Text) (n : ℕ) → number_of w ≡ Some n → sort_of (w ++ r) ≡ 4
+pub number_sort : (w r : Text) (n : ℕ) → number_of w ≡ Some n → sort_of (w ++ r) ≡ 4
 number_sort w r n h =
     let f = number_first w n h in
     let p = word_plain f.0 (digit_is_word f.0 f.3) in
@@ -113,7 +113,7 @@ number_sort w r n h =
 abbrev Late : ℕ → Piece → Type 0
 Late count p = (count ≡ 20000) × ((at : ℕ) → length (token_of at p) ≡ 1)
 
-stray_none : (fresh : Bool) (b : ℕ) (r : Text) → is_space b ≡ false → is_word b ≡ false → mark_of (b ∷ []) ≡ None → ((n : ℕ) → format_of (take n (b ∷ r)) ≡ None) → NoInclude fresh (b ∷ r) → (p : Piece) (x : Text) → b ∷ r ≡ text_of p ++ x → IsPiece fresh p x → ⊥
+pub stray_none : (fresh : Bool) (b : ℕ) (r : Text) → is_space b ≡ false → is_word b ≡ false → mark_of (b ∷ []) ≡ None → ((n : ℕ) → format_of (take n (b ∷ r)) ≡ None) → NoInclude fresh (b ∷ r) → (p : Piece) (x : Text) → b ∷ r ≡ text_of p ++ x → IsPiece fresh p x → ⊥
 unfolding mark_of format_of
 stray_none fresh b r a w m f i (space c) x h is = let e : b ≡ c = ap (λ (v : Text). get_or v 0 0) h in false≢true (sym a ∙ ap is_space e ∙ is)
 stray_none fresh b r a w m f i (line u) x h is = let e : b ≡ 47 = ap (λ (v : Text). get_or v 0 0) h in none-some _ (sym m ∙ ap (λ (c : ℕ). mark_of (c ∷ [])) e)
@@ -270,18 +270,3 @@ one_place bytes why other a b =
       let none = goes_on bytes other b m.0 a.rest m.2 (subst (λ (ps : List Piece). ArePieces true ps a.rest) m.1 a.proper) (subst (λ (ps : List Piece). length (tokens_of 0 ps) ≤ 20000) m.1 a.few) in
       (m.1 ∙ ap (λ (ps : List Piece). b.pieces ++ ps) none ∙ append-nil b.pieces, sym (m.2 ∙ ap (λ (ps : List Piece). texts ps ++ a.rest) none)))
     (walk true a.pieces b.pieces a.rest b.rest split a.proper b.proper)
-
--- ---- one fault stands at a place
-
--- a numeral and what spoils its ending stand at a place once
-numeral_one : (w r u x : Text) (n m : ℕ) → number_of w ≡ Some n → AtHead r (λ b. extends w b ≡ false) → w ++ r ≡ u ++ x → number_of u ≡ Some m → AtHead x (λ b. extends u b ≡ false) → w ≡ u
-numeral_one w r u x n m a b h c d = ⊎_elim
-    (λ (q : (y : Text) × (u ≡ w ++ y) × (r ≡ y ++ x)). sym (further w u r x q.0 n m q.1 q.2 a c b))
-    (λ (q : (y : Text) × (w ≡ u ++ y) × (x ≡ y ++ r)). further u w x r q.0 m n q.1 q.2 c a d)
-    (fronts w u r x h)
-  where
-    further : (w u r x m : Text) (n j : ℕ) → u ≡ w ++ m → r ≡ m ++ x → number_of w ≡ Some n → number_of u ≡ Some j → AtHead r (λ b. extends w b ≡ false) → u ≡ w
-    further w u r x [] n j is to num other ends = is ∙ append-nil w
-    further w u r x (b ∷ m) n j is to num other ends =
-        let there : extends w b ≡ false = subst (λ (y : Text). AtHead y (λ b. extends w b ≡ false)) to ends in
-        absurd (false≢true (sym there ∙ extended w b m n j num (ap number_of (sym is) ∙ other)))

@@ -1,10 +1,11 @@
+mod Numerals
+mod Comments
+mod Includes
+mod Firsts
 pub mod Splice
 pub mod Texts
 pub mod Turns
 pub mod Unique
 pub mod Exact
-mod Numerals
-mod Comments
-mod Includes
-mod Firsts
+pub mod OneFault
 pub mod Results

@@ -5,10 +5,14 @@ use Rattle.std.proofs.lemmas.List.{take-append-drop, drop-drop, take_all, drop_a
 use Rattle.ax_prog.specs.declared.tokens.Token.{Token}
 use Rattle.ax_prog.specs.declared.tokens.Kind.{Kind}
 use Rattle.ax_lex.specs.declared.LexFault.{LexFault}
+use Rattle.ax_lex.specs.declared.LexFault.TheVariants as fault
+use Rattle.ax_lex.specs.declared.front.Front.{Front}
+use Rattle.ax_lex.specs.declared.front.Front.TheVariants.{Word}
 use Rattle.ax_lex.specs.Bytes.{Text}
 use Rattle.ax_lex.specs.Pieces.{Piece, token, text_of, IsPiece, fresh_after, fresh_end, texts, ArePieces, token_of, tokens_of, SpellsTokens}
 use Rattle.ax_lex.specs.Fronts.{FrontIs, WordIs, LayoutIs}
 use Rattle.ax_lex.specs.Faults.{Stuck, Faulty}
+use Rattle.ax_lex.proofs.Firsts.{too_many}
 use Rattle.ax_lex.proofs.Splice.{texts-append, ArePieces-append}
 
 take_add : (a n : ℕ) (xs : Text) → take (a + n) xs ≡ take a xs ++ take n (drop a xs)
@@ -94,3 +98,9 @@ turn_token bytes at n fresh tokens new kind s h lt is =
     let made : SoFar bytes (at + n) false (tokens ++ record { kind = kind; span = record { from = at; to = at + length text } } ∷ []) = turn bytes at n fresh false tokens (token text kind) s h.within refl h.piece refl (omega (arith, length-append tokens (let t : Token = record { kind = kind; span = record { from = at; to = at + length text } } in t ∷ []))) in
     let same : tokens ++ record { kind = kind; span = record { from = at; to = at + length text } } ∷ [] ≡ new = ap (λ (j : ℕ). let t : Token = record { kind = kind; span = record { from = at; to = at + j } } in tokens ++ t ∷ []) count ∙ sym is in
     subst (λ (w : List Token). SoFar bytes (at + n) false w) same made
+
+-- the token that stands next is one too many
+pub full : (bytes : Text) (at n : ℕ) (fresh : Bool) (tokens : List Token) (kind : Kind) (found : Front) (rest : Text) → SoFar bytes at fresh tokens → rest ≡ drop at bytes → FrontIs fresh found rest → found ≡ Word kind n → 20000 ≤ length tokens → Faulty bytes (fault.TooManyTokens at)
+full bytes at n fresh tokens kind found rest s there is word le =
+    let next : WordIs kind n (drop at bytes) = subst (λ (x : Front). FrontIs fresh x (drop at bytes)) word (subst (λ (w : Text). FrontIs fresh found w) there is) in
+    stops bytes at fresh tokens (fault.TooManyTokens at) s (too_many (drop at bytes) at (length tokens) n fresh kind next le)

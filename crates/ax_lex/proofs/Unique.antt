@@ -207,6 +207,13 @@ grow (a ∷ u) b m k j h g = grown
       (λ (t : is_word a ≡ false). rw t (grow_other a u b m k j t h g))
       (cases_Bool (is_word a))
 
+-- the longest token is taken: no token's text stands at its place and is longer (6.4p4)
+pub longest_token : (fresh : Bool) (w rest m more : Text) (kind longer : Kind) → IsPiece fresh (token w kind) rest → rest ≡ m ++ more → kind_of (w ++ m) ≡ Some longer → m ≡ []
+longest_token fresh w rest [] more kind longer is split found = refl
+longest_token fresh w rest (b ∷ m) more kind longer is split found =
+    let there : AtHead (b ∷ (m ++ more)) (λ c. continues w c ≡ false) = subst (λ (v : Text). AtHead v (λ c. continues w c ≡ false)) split is.1 in
+    absurd (false≢true (sym there ∙ grow w b m kind longer is.0 found))
+
 -- two tokens at one place have one text
 pub token_one : (u v r s : Text) (k j : Kind) → u ++ r ≡ v ++ s → kind_of u ≡ Some k → AtHead r (λ b. continues u b ≡ false) → kind_of v ≡ Some j → AtHead s (λ b. continues v b ≡ false) → u ≡ v
 token_one u v r s k j h ku ru kv sv = ⊎_elim

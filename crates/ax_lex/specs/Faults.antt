@@ -5,6 +5,7 @@ use Rattle.ax_prog.specs.declared.tokens.Kind.{Kind}
 use Rattle.ax_prog.specs.declared.tokens.Token.{Token}
 use Rattle.ax_lex.specs.declared.LexFault.{LexFault}
 use Rattle.ax_lex.specs.declared.LexFault.TheVariants as fault
+use Rattle.ax_lex.specs.declared.TheConstants.{MAX_TOKENS}
 use Rattle.ax_lex.specs.Bytes.{Text, is_space, is_word, same, digit, AtHead}
 use Rattle.ax_lex.specs.Tokens.{mark_of, format_of, base_of, number_of, kind_of, continues}
 use Rattle.ax_lex.specs.Pieces.{Piece, include, text_of, has_end, fresh_end, IsPiece, texts, ArePieces, tokens_of, SpellsTokens}
@@ -19,7 +20,7 @@ NoInclude fresh s = (a b name rest : Text) → s ≡ text_of (include a b name) 
 
 -- token 20,001 begins before what stands in it
 abbrev pub late : ℕ → ℕ → LexFault → LexFault
-late count at f = if nat_le 20000 count then fault.TooManyTokens at else f
+late count at f = if nat_le MAX_TOKENS count then fault.TooManyTokens at else f
 
 -- Behind whole pieces with so many tokens no piece goes on: at this place, with this rest, for this reason. (6.4.8 makes a
 -- number of digits, letters and what is like them, so a number ends before none of these.)
@@ -37,7 +38,7 @@ pub data Stuck : ℕ → Bool → ℕ → Text → LexFault → Type 0 where
   -- `0x` without a digit
   bare : {at : ℕ} {fresh : Bool} {count : ℕ} (x : ℕ) (r : Text) → (x == 120 || x == 88) ≡ true → AtHead r (λ b. nat_lt (digit b) 16 ≡ false) → Stuck at fresh count (codes "0" ++ x ∷ r) (late count at (fault.BadByte (at + 1)))
   -- token 20,001
-  many : {at : ℕ} {fresh : Bool} {count : ℕ} (w r : Text) (kind : Kind) → kind_of w ≡ Some kind → AtHead r (λ b. continues w b ≡ false) → 20000 ≤ count → Stuck at fresh count (w ++ r) (fault.TooManyTokens at)
+  many : {at : ℕ} {fresh : Bool} {count : ℕ} (w r : Text) (kind : Kind) → kind_of w ≡ Some kind → AtHead r (λ b. continues w b ≡ false) → MAX_TOKENS ≤ count → Stuck at fresh count (w ++ r) (fault.TooManyTokens at)
 
 -- whole pieces, and then this fault
 pub record Faulty (bytes : Text) (why : LexFault) : Type 0 where
@@ -45,9 +46,13 @@ pub record Faulty (bytes : Text) (why : LexFault) : Type 0 where
   pub rest : Text
   pub joined : bytes ≡ texts pieces ++ rest
   pub proper : ArePieces true pieces rest
-  pub few : length (tokens_of 0 pieces) ≤ 20000
+  pub few : length (tokens_of 0 pieces) ≤ MAX_TOKENS
   pub stuck : Stuck (length (texts pieces)) (fresh_end true pieces) (length (tokens_of 0 pieces)) rest why
+
+-- no other fault stands in them
+abbrev pub IsOnlyFault : Text → LexFault → Type 0
+IsOnlyFault bytes why = (other : LexFault) → Faulty bytes other → other ≡ why
 
 -- no token list within the limit is spelled
 abbrev pub IsUnspelled : Text → Type 0
-IsUnspelled bytes = (tokens : List Token) → SpellsTokens bytes tokens → length tokens ≤ 20000 → ⊥
+IsUnspelled bytes = (tokens : List Token) → SpellsTokens bytes tokens → length tokens ≤ MAX_TOKENS → ⊥

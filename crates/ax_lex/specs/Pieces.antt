@@ -72,3 +72,7 @@ pub record SpellsTokens (bytes : Text) (tokens : List Token) : Type 0 where
   pub joined : bytes ≡ texts pieces
   pub proper : ArePieces true pieces []
   pub found : tokens ≡ tokens_of 0 pieces
+
+-- they spell no other tokens
+abbrev pub IsOnlyList : Text → List Token → Type 0
+IsOnlyList bytes tokens = (others : List Token) → SpellsTokens bytes others → others ≡ tokens

@@ -5,11 +5,11 @@ ghost use Rattle.ax_lex.specs.Bytes.{is_blank, is_space, is_word};
 ghost use Rattle.ax_lex.specs.Fronts.{FrontIs};
 ghost use Rattle.ax_lex.specs.Faults.{Stuck, late};
 
-use crate::LexFault;
 use crate::classes::{is_blank, is_letter, is_space, past};
 use crate::layout::{block_body, include_len, line_len};
 use crate::numbers::{NumberFault, take_number};
 use crate::words::{take_format, take_mark, take_word};
+use crate::{LexFault, MAX_TOKENS};
 use ax_prog::tokens::Kind;
 use std::alloc::Global;
 
@@ -32,7 +32,7 @@ fn fresh_after_space(fresh: bool, b: u8) -> bool
 fn late(count: usize, at: usize, fault: LexFault) -> LexFault
     ensures { result ≡ late count at fault }
 {
-    if 20000 <= count {
+    if MAX_TOKENS <= count {
         LexFault::TooManyTokens(at)
     } else {
         fault

@@ -25,8 +25,11 @@ use sqlite_items::Items;
 use std::alloc::{AllocError, Global};
 
 ghost use Rattle.std.specs.Prelude.{◌≡◌, ◌≤◌, ◌<◌, ◌^◌, length, IfOk, IfErr, ◌⊎◌};
-ghost use Rattle.ax_lex.specs.Pieces.{SpellsTokens};
-ghost use Rattle.ax_lex.specs.Faults.{Faulty, IsUnspelled};
+ghost use Rattle.ax_lex.specs.Pieces.{SpellsTokens, IsOnlyList};
+ghost use Rattle.ax_lex.specs.Faults.{Faulty, IsOnlyFault, IsUnspelled};
+
+/// How many tokens a source has at most.
+pub const MAX_TOKENS: usize = 20_000;
 
 /// Why bytes are no tokens, and at which byte.
 #[derive(Clone, Copy, PartialEq, Eq, Debug)]
@@ -57,9 +60,13 @@ impl From<AllocError> for LexFault {
 /// The tokens that the bytes spell, 20,000 at most, or the first fault.
 pub fn lex(alloc: Global, bytes: &[u8]) -> Result<Items<Token>, LexFault>
     requires { length bytes.now < 2 ^ 32 }
-    ensures spelled { IfOk result (SpellsTokens bytes.now) }
-    ensures few { IfOk result (λ tokens. length tokens ≤ 20000) }
+    ensures spelled { IfOk result (λ tokens. SpellsTokens bytes.now tokens) }
+    ensures few { IfOk result (λ tokens. length tokens ≤ MAX_TOKENS) }
+    ensures only { IfOk result (λ tokens. IsOnlyList bytes.now tokens) }
+
     ensures fault { IfErr result (λ e. (e ≡ LexFault.Memory) ⊎ Faulty bytes.now e) }
+    ensures only_fault { IfErr result (λ e. (e ≡ LexFault.Memory) ⊎ IsOnlyFault bytes.now e) }
+    ensures unspelled { IfErr result (λ e. (e ≡ LexFault.Memory) ⊎ IsUnspelled bytes.now) }
 {
     let mut tokens = Items::new(alloc);
     let mut at = 0;
@@ -72,7 +79,7 @@ pub fn lex(alloc: Global, bytes: &[u8]) -> Result<Items<Token>, LexFault>
                 fresh = next;
             }
             Front::Word(kind, n) => {
-                if tokens.len() >= 20000 {
+                if tokens.len() >= MAX_TOKENS {
                     return Err(LexFault::TooManyTokens(at));
                 }
                 let span = Span {
