@@ -1,21 +1,18 @@
 -- Comments, includes and formats at the front.
-use Rattle.std.proofs.Common.{◌≡◌, ◌≤◌, ◌<◌, ℕ, zero, suc, ◌+◌, ◌*◌, Bool, true, false, not, ◌&&◌, ◌||◌, cond, eqb, ltb, leb, List, [], ◌∷◌, ◌++◌, length, take, drop, get_or, Option, Some, None, refl, sym, ap, ◌∙◌, subst, arith, ⊎_elim, ◌⊎◌, inl, inr, add-one, ◌-◌, option_map, zero-add, length-take-le, length-append, append_assoc, append-nil, codes}
+use Rattle.std.proofs.Common.{◌≡◌, ◌≤◌, ◌<◌, ℕ, zero, suc, ◌+◌, Bool, true, false, not, ◌&&◌, eqb, [], ◌∷◌, ◌++◌, length, take, drop, get_or, Option, Some, None, refl, sym, ap, ◌∙◌, subst, arith, ⊎_elim, option_map, length-take-le, length-append}
 use Rattle.std.specs.List.{list_all, prefix_len}
-use Rattle.std.proofs.lemmas.Bool.{cases_Bool, and_right, ne_eqb, false≢true, true≢false, or_left, or_parts, and_left, le-leb, eqb-true, not-false, cases_eq, and_parts, or_from, and_from, eq-eqb, lt-ltb}
-use Rattle.std.proofs.lemmas.List.Sums.{prefix_len-le-length}
-use Rattle.std.proofs.lemmas.List.{take-append-drop, drop_more, append_cancel_left, drop-drop}
+use Rattle.std.proofs.lemmas.Bool.{cases_Bool, and_right, false≢true, eqb-true, not-false, and_parts, and_from, eq-eqb}
+use Rattle.std.proofs.lemmas.List.{take-append-drop, drop_more}
 use Rattle.std.proofs.lemmas.Option.{none-some, same_Some}
-use Rattle.ax_prog.specs.declared.tokens.Kind.{Kind}
 use Rattle.ax_prog.specs.declared.tokens.Kind.TheVariants as k
 use Rattle.ax_lex.specs.declared.LexFault.TheVariants as fault
-use Rattle.ax_lex.specs.Bytes.{Text, is_blank, is_word, same, last_of, AtHead}
-use Rattle.ax_lex.specs.Tokens.{lookup, mark_of, format_of, continues, kind_of}
-use Rattle.ax_lex.specs.Pieces.{Piece, space, line, block, include, token, text_of, has_end, IsPiece}
+use Rattle.ax_lex.specs.Bytes.{Text, same, AtHead}
+use Rattle.ax_lex.specs.Tokens.{mark_of, format_of, continues, kind_of}
+use Rattle.ax_lex.specs.Pieces.{block, has_end}
 use Rattle.ax_lex.specs.Fronts.{WordIs, LayoutIs, end_of}
-use Rattle.ax_lex.specs.Faults.{Stuck, NoInclude}
-use Rattle.ax_lex.proofs.Texts.{list_all_prefix, after_prefix, at_head_weaker, one-add}
+use Rattle.ax_lex.specs.Faults.{Stuck}
+use Rattle.ax_lex.proofs.Texts.{list_all_prefix, after_prefix}
 use Rattle.ax_lex.proofs.Splice.{same_true}
-use Rattle.ax_lex.proofs.Unique.{span_one, flat, include_flat}
 
 -- ---- `/* */`
 
@@ -42,19 +39,21 @@ closed : (t : Text) (n : ℕ) → end_of t ≡ Some n → Closed t n
 closed [] n h = absurd (none-some n h)
 closed (b ∷ t) n h = ⊎_elim
     (λ (e : ends_here b t ≡ true).
-      let zero_is : 0 ≡ n = same_Some 0 n (sym (rw e refl) ∙ h) in
-      let p = and_parts (eqb b 42) (eqb (get_or t 0 0) 47) e in
-      subst (λ (j : ℕ). Closed (b ∷ t) j) zero_is (here b t (eqb-true b 42 p.0) (eqb-true (get_or t 0 0) 47 p.1)))
+    let zero_is : 0 ≡ n = same_Some 0 n (sym (rw e refl) ∙ h) in
+    let p = and_parts (eqb b 42) (eqb (get_or t 0 0) 47) e in
+    subst (λ (j : ℕ). Closed (b ∷ t) j) zero_is (here b t (eqb-true b 42 p.0) (eqb-true (get_or t 0 0) 47 p.1)))
     (λ (e : ends_here b t ≡ false). later b t n (closed t) e (end_of t) refl (sym (rw e refl) ∙ h))
     (cases_Bool (ends_here b t))
   where
     here : (b : ℕ) (t : Text) → b ≡ 42 → get_or t 0 0 ≡ 47 → Closed (b ∷ t) 0
     here b [] is to = absurd (omega arith)
     here b (c ∷ t) is to = record { body = refl; marks = cc; within = omega arith }
+
     stays : (b : ℕ) (t : Text) (m : ℕ) → ends_here b t ≡ false → has_end (take m t) ≡ false → has_end (b ∷ take m t) ≡ false
     stays b t zero e h = rw (and_right (eqb b 42) false refl) refl
     stays b [] (suc m) e h = rw (and_right (eqb b 42) false refl) refl
     stays b (c ∷ t) (suc m) e h = rw e h
+
     later : (b : ℕ) (t : Text) (n : ℕ) → ((m : ℕ) → end_of t ≡ Some m → Closed t m) → ends_here b t ≡ false → (o : Option ℕ) → end_of t ≡ o → option_map (λ j. j + 1) o ≡ Some n → Closed (b ∷ t) n
     later b t n ih e None is h = absurd (none-some n h)
     later b t n ih e (Some m) is h =
@@ -138,8 +137,10 @@ format_is s w n i is le some kind ends = record {
 
 abbrev plain_text : Text
 plain_text = 34 ∷ 37 ∷ 100 ∷ 34 ∷ []
+
 abbrev line_text : Text
 line_text = 34 ∷ 37 ∷ 100 ∷ 92 ∷ 110 ∷ 34 ∷ []
+
 abbrev space_text : Text
 space_text = 34 ∷ 37 ∷ 100 ∷ 32 ∷ 34 ∷ []
 
@@ -167,10 +168,10 @@ same_refl (x ∷ w) = and_from (eqb x x) (same w w) (eq-eqb x x refl) (same_refl
 not_front : (s w : Text) (j : ℕ) → j ≡ length w → (j ≤ length s → same w (take j s) ≡ false) → (n : ℕ) → same w (take n s) ≡ false
 not_front s w j is off n = ⊎_elim
     (λ (h : same w (take n s) ≡ true).
-      let front : s ≡ w ++ drop n s = sym (take-append-drop n s) ∙ ap (λ (v : Text). v ++ drop n s) (sym (same_true w (take n s) h)) in
-      let here : take j s ≡ w = ap (λ (m : ℕ). take m s) is ∙ ap (λ (v : Text). take (length w) v) front ∙ take_front w (drop n s) in
-      let le : j ≤ length s = omega (arith, length-append w (drop n s), ap length front) in
-      absurd (false≢true (sym (off le) ∙ ap (same w) here ∙ same_refl w)))
+    let front : s ≡ w ++ drop n s = sym (take-append-drop n s) ∙ ap (λ (v : Text). v ++ drop n s) (sym (same_true w (take n s) h)) in
+    let here : take j s ≡ w = ap (λ (m : ℕ). take m s) is ∙ ap (λ (v : Text). take (length w) v) front ∙ take_front w (drop n s) in
+    let le : j ≤ length s = omega (arith, length-append w (drop n s), ap length front) in
+    absurd (false≢true (sym (off le) ∙ ap (same w) here ∙ same_refl w)))
     (λ (h : same w (take n s) ≡ false). h)
     (cases_Bool (same w (take n s)))
 

@@ -1,22 +1,21 @@
 -- Faulty bytes are spelled by no tokens.
-use Rattle.std.proofs.Common.{pos, ◌≡◌, ◌≤◌, ◌<◌, ℕ, zero, suc, ◌+◌, Bool, true, false, not, ◌&&◌, ◌||◌, cond, eqb, ltb, leb, List, [], ◌∷◌, ◌++◌, length, take, drop, get_or, Option, Some, None, refl, sym, ap, ◌∙◌, subst, arith, ⊎_elim, ◌⊎◌, inl, inr, length-append, append_assoc, append-nil, option_map, length-take-le, is_some}
+use Rattle.std.proofs.Common.{pos, ◌≡◌, ◌≤◌, ℕ, ◌+◌, Bool, true, false, not, ◌&&◌, ◌||◌, cond, eqb, ltb, List, [], ◌∷◌, ◌++◌, length, take, drop, get_or, Some, None, refl, sym, ap, ◌∙◌, subst, arith, ⊎_elim, ◌⊎◌, inl, inr, length-append, append_assoc, append-nil, option_map, is_some}
 use Rattle.std.specs.List.{list_all}
 use Rattle.std.specs.Char.{is_ascii_digit}
-use Rattle.std.proofs.lemmas.Bool.{cases_Bool, false≢true, true≢false, and_parts, and_from, or_left, or_right, or_cases, or_parts, and_right, eqb-true}
+use Rattle.std.proofs.lemmas.Bool.{cases_Bool, false≢true, and_parts, and_from, or_left, or_right, or_cases, and_right, eqb-true}
 use Rattle.std.proofs.lemmas.Bool.Decides.{nat_tests}
 use Rattle.std.proofs.lemmas.Option.{none-some, same_Some}
 use Rattle.std.proofs.lemmas.List.{append_cancel_left}
 use Rattle.ax_prog.specs.declared.tokens.Kind.{Kind}
 use Rattle.ax_prog.specs.declared.tokens.Mark.{Mark}
 use Rattle.ax_lex.specs.declared.LexFault.{LexFault}
-use Rattle.ax_lex.specs.declared.LexFault.TheVariants as fault
 use Rattle.ax_prog.specs.declared.tokens.Kind.TheVariants as k
-use Rattle.ax_lex.specs.Bytes.{Text, is_word, is_letter, is_space, same, digit, last_of, AtHead}
-use Rattle.ax_lex.specs.Tokens.{is_hex, numeral, number_of, small, mark_of, format_of, continues, kind_of, other_kind, base_of}
-use Rattle.ax_lex.specs.Pieces.{Piece, space, line, block, include, token, text_of, has_end, fresh_after, fresh_end, IsPiece, texts, ArePieces, token_of, tokens_of, SpellsTokens}
+use Rattle.ax_lex.specs.Bytes.{Text, is_word, is_space, same, digit, last_of, AtHead}
+use Rattle.ax_lex.specs.Tokens.{is_hex, numeral, number_of, small, mark_of, format_of, continues, kind_of, base_of}
+use Rattle.ax_lex.specs.Pieces.{Piece, space, line, block, include, token, text_of, has_end, fresh_after, IsPiece, texts, ArePieces, token_of, tokens_of, SpellsTokens}
 use Rattle.ax_lex.specs.Faults.{Stuck, Faulty, NoInclude, extends, late}
 use Rattle.ax_prog.specs.declared.tokens.Token.{Token}
-use Rattle.ax_lex.proofs.Unique.{fronts, span_one, has_end-at, sort_of, sort, sort_is, word_all, number_all, other_cases, mark_fronts, prefix_marks-at, list_all-at, small_some, some_of_map, piece_one, line_heads, word_plain, kind_sort, numeral_all, prefix_marks}
+use Rattle.ax_lex.proofs.Unique.{fronts, span_one, has_end-at, sort_of, sort, sort_is, number_all, other_cases, mark_fronts, list_all-at, small_some, some_of_map, piece_one, line_heads, word_plain, kind_sort, numeral_all, prefix_marks}
 use Rattle.ax_lex.proofs.Comments.{take_front}
 use Rattle.ax_lex.proofs.Splice.{ArePieces-parts}
 use Rattle.ax_lex.proofs.Turns.{tokens_of-append}
@@ -28,16 +27,17 @@ number_first (d ∷ t) n h = (d, t, refl, first d t n h)
   where
     first : (d : ℕ) (t : Text) (n : ℕ) → number_of (d ∷ t) ≡ Some n → is_ascii_digit d ≡ true
     first d t n h = ⊎_elim
-      (λ (x : is_hex (d ∷ t) ≡ true). ap is_ascii_digit (eqb-true d 48 (hex_zero d t x)))
-      (λ (x : is_hex (d ∷ t) ≡ false).
+        (λ (x : is_hex (d ∷ t) ≡ true). ap is_ascii_digit (eqb-true d 48 (hex_zero d t x)))
+        (λ (x : is_hex (d ∷ t) ≡ false).
         let base = cond (eqb d 48) 8 10 in
         let all = numeral_all base (d ∷ t) n (sym (rw x refl) ∙ h) in
         below_ten d (eqb d 48) ((and_parts (ltb (digit d) base) (list_all (λ c. ltb (digit c) base) t) all).0))
-      (cases_Bool (is_hex (d ∷ t)))
+        (cases_Bool (is_hex (d ∷ t)))
       where
         hex_zero : (d : ℕ) (t : Text) → is_hex (d ∷ t) ≡ true → eqb d 48 ≡ true
         hex_zero d [] x = (and_parts (eqb d 48) false x).0
         hex_zero d (e ∷ t) x = (and_parts (eqb d 48) (eqb e 120 || eqb e 88) x).0
+
         below_ten : (d : ℕ) (b : Bool) → ltb (digit d) (cond b 8 10) ≡ true → is_ascii_digit d ≡ true
         below_ten d true x = grind (arith, nat_tests)
         below_ten d false x = grind (arith, nat_tests)
@@ -47,22 +47,22 @@ pub extended : (w : Text) (b : ℕ) (m : Text) (i j : ℕ) → number_of w ≡ S
 extended [] b m i j h g = absurd (none-some i h)
 extended (d ∷ []) b m i j h g = ⊎_elim
     (λ (x : is_hex (d ∷ b ∷ m) ≡ true).
-      let p = and_parts (eqb d 48) (eqb b 120 || eqb b 88) x in
-      or_right (ltb (digit b) (base_of (d ∷ []))) (same (d ∷ []) (48 ∷ []) && (eqb b 120 || eqb b 88)) (and_from (same (d ∷ []) (48 ∷ [])) (eqb b 120 || eqb b 88) (and_from (eqb d 48) true p.0 refl) p.1))
+    let p = and_parts (eqb d 48) (eqb b 120 || eqb b 88) x in
+    or_right (ltb (digit b) (base_of (d ∷ []))) (same (d ∷ []) (48 ∷ []) && (eqb b 120 || eqb b 88)) (and_from (same (d ∷ []) (48 ∷ [])) (eqb b 120 || eqb b 88) (and_from (eqb d 48) true p.0 refl) p.1))
     (λ (x : is_hex (d ∷ b ∷ m) ≡ false).
-      let base = cond (eqb d 48) 8 10 in
-      let all = numeral_all base (d ∷ b ∷ m) j (sym (rw x refl) ∙ g) in
-      let second = (and_parts (ltb (digit b) base) (list_all (λ c. ltb (digit c) base) m) (and_parts (ltb (digit d) base) (list_all (λ c. ltb (digit c) base) (b ∷ m)) all).1).0 in
-      or_left (ltb (digit b) (base_of (d ∷ []))) (same (d ∷ []) (48 ∷ []) && (eqb b 120 || eqb b 88)) (rw (and_right (eqb d 48) false refl) second))
+    let base = cond (eqb d 48) 8 10 in
+    let all = numeral_all base (d ∷ b ∷ m) j (sym (rw x refl) ∙ g) in
+    let second = (and_parts (ltb (digit b) base) (list_all (λ c. ltb (digit c) base) m) (and_parts (ltb (digit d) base) (list_all (λ c. ltb (digit c) base) (b ∷ m)) all).1).0 in
+    or_left (ltb (digit b) (base_of (d ∷ []))) (same (d ∷ []) (48 ∷ []) && (eqb b 120 || eqb b 88)) (rw (and_right (eqb d 48) false refl) second))
     (cases_Bool (is_hex (d ∷ b ∷ m)))
 extended (d ∷ y ∷ t) b m i j h g = ⊎_elim
     (λ (x : is_hex (d ∷ y ∷ t) ≡ true).
-      let all = numeral_all 16 (t ++ b ∷ m) j (sym (rw x refl) ∙ g) in
-      or_left (ltb (digit b) (base_of (d ∷ y ∷ t))) (same (d ∷ y ∷ t) (48 ∷ []) && (eqb b 120 || eqb b 88)) (rw x (list_all-at (λ c. ltb (digit c) 16) t b m all)))
+    let all = numeral_all 16 (t ++ b ∷ m) j (sym (rw x refl) ∙ g) in
+    or_left (ltb (digit b) (base_of (d ∷ y ∷ t))) (same (d ∷ y ∷ t) (48 ∷ []) && (eqb b 120 || eqb b 88)) (rw x (list_all-at (λ c. ltb (digit c) 16) t b m all)))
     (λ (x : is_hex (d ∷ y ∷ t) ≡ false).
-      let base = cond (eqb d 48) 8 10 in
-      let all = numeral_all base (d ∷ y ∷ (t ++ b ∷ m)) j (sym (rw x refl) ∙ g) in
-      or_left (ltb (digit b) (base_of (d ∷ y ∷ t))) (same (d ∷ y ∷ t) (48 ∷ []) && (eqb b 120 || eqb b 88)) (rw x (list_all-at (λ c. ltb (digit c) base) (d ∷ y ∷ t) b m all)))
+    let base = cond (eqb d 48) 8 10 in
+    let all = numeral_all base (d ∷ y ∷ (t ++ b ∷ m)) j (sym (rw x refl) ∙ g) in
+    or_left (ltb (digit b) (base_of (d ∷ y ∷ t))) (same (d ∷ y ∷ t) (48 ∷ []) && (eqb b 120 || eqb b 88)) (rw x (list_all-at (λ c. ltb (digit c) base) (d ∷ y ∷ t) b m all)))
     (cases_Bool (is_hex (d ∷ y ∷ t)))
 
 pub no_empty : (kind : Kind) → kind_of [] ≡ Some kind → ⊥
@@ -79,14 +79,15 @@ number_same w r (c ∷ u) x n kind num ends split is stops =
     let s = some_of_map (small (number_of (c ∷ u))) (λ (n : ℕ). k.Number (pos n)) kind (let e : kind_of (c ∷ u) ≡ option_map (λ (n : ℕ). k.Number (pos n)) (small (number_of (c ∷ u))) = rw dig refl in sym e ∙ is) in
     let v = small_some (number_of (c ∷ u)) s.0 s.1 in
     let text : c ∷ u ≡ w = ⊎_elim
-      (λ (a : (m : Text) × (w ≡ (c ∷ u) ++ m) × (x ≡ m ++ r)). sym (longer c u w x r a.0 n a.1 a.2 num dig stops))
-      (λ (a : (m : Text) × (c ∷ u ≡ w ++ m) × (r ≡ m ++ x)). further w (c ∷ u) r x a.0 n s.0 a.1 a.2 num v.0 ends)
-      (fronts (c ∷ u) w x r (sym split)) in
+    (λ (a : (m : Text) × (w ≡ (c ∷ u) ++ m) × (x ≡ m ++ r)). sym (longer c u w x r a.0 n a.1 a.2 num dig stops))
+    (λ (a : (m : Text) × (c ∷ u ≡ w ++ m) × (r ≡ m ++ x)). further w (c ∷ u) r x a.0 n s.0 a.1 a.2 num v.0 ends)
+    (fronts (c ∷ u) w x r (sym split)) in
     let same_value : n ≡ s.0 = same_Some n s.0 (sym num ∙ ap number_of (sym text) ∙ v.0) in
     (text, append_cancel_left w r x (split ∙ ap (λ (y : Text). y ++ x) text), omega (arith, v.1, same_value))
   where
     digit_is_word : (d : ℕ) → is_ascii_digit d ≡ true → is_word d ≡ true
     digit_is_word d h = grind (arith, nat_tests)
+
     longer : (c : ℕ) (u w x r m : Text) (n : ℕ) → w ≡ (c ∷ u) ++ m → x ≡ m ++ r → number_of w ≡ Some n → is_ascii_digit c ≡ true → AtHead x (λ b. continues (c ∷ u) b ≡ false) → w ≡ c ∷ u
     longer c u w x r [] n is to num dig stops = is ∙ append-nil (c ∷ u)
     longer c u w x r (b ∷ m) n is to num dig stops =
@@ -94,6 +95,7 @@ number_same w r (c ∷ u) x n kind num ends split is stops =
         let word : is_word b ≡ true = list_all-at is_word (c ∷ u) b m (number_all (c ∷ (u ++ b ∷ m)) n (ap number_of (sym is) ∙ num)) in
         let on : continues (c ∷ u) b ≡ true = rw (digit_is_word c dig) (rw word refl) in
         absurd (false≢true (sym there ∙ on))
+
     further : (w u r x m : Text) (n j : ℕ) → u ≡ w ++ m → r ≡ m ++ x → number_of w ≡ Some n → number_of u ≡ Some j → AtHead r (λ b. extends w b ≡ false) → u ≡ w
     further w u r x [] n j is to num other ends = is ∙ append-nil w
     further w u r x (b ∷ m) n j is to num other ends =
@@ -144,6 +146,7 @@ spliced_none body r u x all h u_all ends =
     with_last : (p : ℕ → Bool) (body : Text) → list_all (λ b. not (eqb b 10)) body ≡ true → list_all (λ b. not (eqb b 10)) (body ++ 92 ∷ []) ≡ true
     with_last p [] h = refl
     with_last p (b ∷ body) h = let c = and_parts (not (eqb b 10)) (list_all (λ b. not (eqb b 10)) body) h in and_from (not (eqb b 10)) (list_all (λ b. not (eqb b 10)) (body ++ 92 ∷ [])) c.0 (with_last p body c.1)
+
     last_is : (body : Text) → last_of (body ++ 92 ∷ []) ≡ 92
     last_is [] = refl
     last_is (b ∷ []) = refl
@@ -249,8 +252,8 @@ faulty_unspelled bytes why a ts s few =
     let split : texts a.pieces ++ a.rest ≡ texts s.pieces ++ [] = sym a.joined ∙ s.joined ∙ sym (append-nil (texts s.pieces)) in
     ⊎_elim
     (λ (m : (more : List Piece) × (s.pieces ≡ a.pieces ++ more) × (a.rest ≡ texts more ++ [])).
-      let none = goes_on bytes why a m.0 [] m.2 (subst (λ (ps : List Piece). ArePieces true ps []) m.1 s.proper) (subst (λ (ps : List Piece). length (tokens_of 0 ps) ≤ 20000) m.1 (subst (λ (us : List Token). length us ≤ 20000) s.found few)) in
-      stuck_some a.stuck (m.2 ∙ ap (λ (ps : List Piece). texts ps ++ []) none))
+    let none = goes_on bytes why a m.0 [] m.2 (subst (λ (ps : List Piece). ArePieces true ps []) m.1 s.proper) (subst (λ (ps : List Piece). length (tokens_of 0 ps) ≤ 20000) m.1 (subst (λ (us : List Token). length us ≤ 20000) s.found few)) in
+    stuck_some a.stuck (m.2 ∙ ap (λ (ps : List Piece). texts ps ++ []) none))
     (λ (m : (more : List Piece) × (a.pieces ≡ s.pieces ++ more) × ([] ≡ texts more ++ a.rest)). stuck_some a.stuck (back_nil (texts m.0) a.rest (sym m.2)))
     (walk true a.pieces s.pieces a.rest [] split a.proper s.proper)
   where
@@ -264,9 +267,9 @@ one_place bytes why other a b =
     let split : texts a.pieces ++ a.rest ≡ texts b.pieces ++ b.rest = sym a.joined ∙ b.joined in
     ⊎_elim
     (λ (m : (more : List Piece) × (b.pieces ≡ a.pieces ++ more) × (a.rest ≡ texts more ++ b.rest)).
-      let none = goes_on bytes why a m.0 b.rest m.2 (subst (λ (ps : List Piece). ArePieces true ps b.rest) m.1 b.proper) (subst (λ (ps : List Piece). length (tokens_of 0 ps) ≤ 20000) m.1 b.few) in
-      (sym (m.1 ∙ ap (λ (ps : List Piece). a.pieces ++ ps) none ∙ append-nil a.pieces), m.2 ∙ ap (λ (ps : List Piece). texts ps ++ b.rest) none))
+    let none = goes_on bytes why a m.0 b.rest m.2 (subst (λ (ps : List Piece). ArePieces true ps b.rest) m.1 b.proper) (subst (λ (ps : List Piece). length (tokens_of 0 ps) ≤ 20000) m.1 b.few) in
+    (sym (m.1 ∙ ap (λ (ps : List Piece). a.pieces ++ ps) none ∙ append-nil a.pieces), m.2 ∙ ap (λ (ps : List Piece). texts ps ++ b.rest) none))
     (λ (m : (more : List Piece) × (a.pieces ≡ b.pieces ++ more) × (b.rest ≡ texts more ++ a.rest)).
-      let none = goes_on bytes other b m.0 a.rest m.2 (subst (λ (ps : List Piece). ArePieces true ps a.rest) m.1 a.proper) (subst (λ (ps : List Piece). length (tokens_of 0 ps) ≤ 20000) m.1 a.few) in
-      (m.1 ∙ ap (λ (ps : List Piece). b.pieces ++ ps) none ∙ append-nil b.pieces, sym (m.2 ∙ ap (λ (ps : List Piece). texts ps ++ a.rest) none)))
+    let none = goes_on bytes other b m.0 a.rest m.2 (subst (λ (ps : List Piece). ArePieces true ps a.rest) m.1 a.proper) (subst (λ (ps : List Piece). length (tokens_of 0 ps) ≤ 20000) m.1 a.few) in
+    (m.1 ∙ ap (λ (ps : List Piece). b.pieces ++ ps) none ∙ append-nil b.pieces, sym (m.2 ∙ ap (λ (ps : List Piece). texts ps ++ a.rest) none)))
     (walk true a.pieces b.pieces a.rest b.rest split a.proper b.proper)

@@ -1,13 +1,12 @@
 -- What stands first, by its first byte.
-use Rattle.std.proofs.Common.{◌≡◌, ◌≤◌, ◌<◌, ℕ, zero, suc, ◌+◌, Bool, true, false, ◌&&◌, ◌||◌, eqb, List, [], ◌∷◌, ◌++◌, length, take, drop, get_or, Option, Some, None, refl, sym, ap, ◌∙◌, subst, arith, ⊎_elim, ◌⊎◌, inl, inr}
-use Rattle.std.specs.Char.{is_ascii_digit}
+use Rattle.std.proofs.Common.{◌≡◌, ◌≤◌, ◌<◌, ℕ, zero, suc, ◌+◌, Bool, true, false, ◌&&◌, ◌||◌, eqb, [], ◌∷◌, ◌++◌, length, take, drop, get_or, None, refl, sym, ap, subst, arith, inl, inr}
 use Rattle.std.proofs.lemmas.List.{take-append-drop}
 use Rattle.ax_prog.specs.declared.tokens.Kind.{Kind}
 use Rattle.ax_lex.specs.declared.LexFault.TheVariants as fault
 use Rattle.ax_lex.specs.declared.numbers.NumberFault.TheVariants.{Large, Bad}
-use Rattle.ax_lex.specs.Bytes.{Text, is_blank, is_space, is_letter, is_word}
+use Rattle.ax_lex.specs.Bytes.{Text, is_blank, is_space, is_word}
 use Rattle.ax_lex.specs.Tokens.{mark_of, format_of}
-use Rattle.ax_lex.specs.Pieces.{Piece, space, IsPiece}
+use Rattle.ax_lex.specs.Pieces.{space}
 use Rattle.ax_lex.specs.Fronts.{WordIs, LayoutIs, NumberIs}
 use Rattle.ax_lex.specs.Faults.{Stuck, NoInclude, late}
 use Rattle.ax_lex.proofs.Texts.{no_format}

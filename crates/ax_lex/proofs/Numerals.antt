@@ -1,16 +1,15 @@
 -- Numbers at the front.
-use Rattle.std.proofs.Common.{◌≡◌, ◌≤◌, ◌<◌, ℕ, zero, suc, ◌+◌, ◌*◌, Bool, true, false, not, ◌&&◌, ◌||◌, cond, eqb, ltb, leb, List, [], ◌∷◌, ◌++◌, length, take, drop, get_or, Option, Some, None, refl, sym, ap, ◌∙◌, subst, arith, ⊎_elim, ◌⊎◌, inl, inr, add-one, ◌-◌, ℤ, pos, option_map, zero-add, length-take-le}
+use Rattle.std.proofs.Common.{◌≡◌, ◌≤◌, ◌<◌, ℕ, zero, suc, ◌+◌, ◌*◌, Bool, true, false, ◌&&◌, ◌||◌, cond, eqb, ltb, [], ◌∷◌, ◌++◌, length, take, drop, get_or, Some, refl, sym, ap, ◌∙◌, subst, arith, ⊎_elim, ◌⊎◌, inl, inr, ◌-◌, ℤ, pos, zero-add, length-take-le}
 use Rattle.std.specs.List.{list_all, prefix_len}
 use Rattle.std.specs.Char.{is_ascii_digit}
-use Rattle.std.proofs.lemmas.Bool.{cases_Bool, and_right, ne_eqb, false≢true, or_left, or_parts, and_left, le-leb, eqb-true, not-false, cases_eq, and_parts, or_from, and_from, eq-eqb, lt-ltb}
+use Rattle.std.proofs.lemmas.Bool.{cases_Bool, and_right, false≢true, le-leb, eqb-true, and_parts, and_from}
 use Rattle.std.proofs.lemmas.Bool.Decides.{nat_tests}
 use Rattle.std.proofs.lemmas.List.Sums.{prefix_len-le-length}
 use Rattle.std.proofs.lemmas.List.{take-append-drop, drop_more, take_rest, drop_all}
-use Rattle.ax_prog.specs.declared.tokens.Kind.{Kind}
 use Rattle.ax_prog.specs.declared.tokens.Kind.TheVariants as k
 use Rattle.ax_lex.specs.declared.numbers.NumberFault.TheVariants.{Large, Bad}
-use Rattle.ax_lex.specs.Bytes.{Text, is_word, is_letter, same, digit, AtHead}
-use Rattle.ax_lex.specs.Tokens.{is_hex, value, numeral, number_of, small, continues, kind_of, base_of}
+use Rattle.ax_lex.specs.Bytes.{Text, is_word, same, digit, AtHead}
+use Rattle.ax_lex.specs.Tokens.{is_hex, value, numeral, number_of, continues, base_of}
 use Rattle.ax_lex.specs.Fronts.{WordIs, NumberIs, head_of, numeral_len}
 use Rattle.ax_lex.specs.Faults.{extends}
 use Rattle.ax_lex.proofs.Texts.{list_all_prefix, after_prefix, at_head_weaker, one-add}
@@ -88,14 +87,18 @@ plain_numeral d t m dig off is =
       where
         ten : (d : ℕ) → is_ascii_digit d ≡ true → ltb (digit d) 10 ≡ true
         ten d dig = grind (arith, nat_tests)
+
     digit_is_word : (d : ℕ) → is_ascii_digit d ≡ true → is_word d ≡ true
     digit_is_word d dig = grind (arith, nat_tests)
+
     short_hex : (d m : ℕ) (t : Text) → is_hex (d ∷ t) ≡ false → is_hex (d ∷ take m t) ≡ false
     short_hex d zero t off = and_right (eqb d 48) false refl
     short_hex d (suc m) [] off = off
     short_hex d (suc m) (x ∷ t) off = off
+
     plain_number : (d : ℕ) (t : Text) (m : ℕ) → is_hex (d ∷ t) ≡ false → is_hex (d ∷ take m t) ≡ false → numeral (plain_base d) (d ∷ take m t) ≡ Some (value (plain_base d) 0 (d ∷ take m t)) → number_of (take (suc m) (d ∷ t)) ≡ Some (value (base_of (d ∷ t)) 0 (take (suc m - head_of (d ∷ t)) (drop (head_of (d ∷ t)) (d ∷ t))))
     plain_number d t m off not_hex num = let count : suc m - 0 ≡ suc m = omega arith in rw not_hex (rw off (rw count num))
+
     plain_ends : (d : ℕ) (t : Text) (m : ℕ) → is_hex (d ∷ t) ≡ false → is_hex (d ∷ take m t) ≡ false → AtHead (drop m t) (λ b. ltb (digit b) (plain_base d) ≡ false) → AtHead (drop m t) (λ b. extends (d ∷ take m t) b ≡ false)
     plain_ends d [] zero off not_hex h = tt
     plain_ends d [] (suc m) off not_hex h = tt
@@ -136,13 +139,16 @@ numeral_at s e dig is = ⊎_elim
           where
             ten : (d : ℕ) → is_ascii_digit d ≡ true → ltb (digit d) 10 ≡ true
             ten d dig = grind (arith, nat_tests)
+
     hex_case : (s : Text) (e x : ℕ) (t : Text) → s ≡ 48 ∷ x ∷ t → (eqb x 120 || eqb x 88) ≡ true → is_hex s ≡ true → e ≡ numeral_len s → Cases s e
     hex_case s e x t is hex h e_is = go (prefix_len p t) refl
       where
         p : ℕ → Bool
         p = λ b. ltb (digit b) 16
+
         count : e ≡ 2 + prefix_len (λ b. ltb (digit b) 16) t
         count = e_is ∙ ap numeral_len is ∙ rw hex refl
+
         go : (m : ℕ) → prefix_len (λ b. ltb (digit b) 16) t ≡ m → Cases s e
         go zero run = inr (h, count ∙ ap (λ (j : ℕ). 2 + j) run, inr (x, t, is, hex, subst (λ (j : ℕ). AtHead (drop j t) (λ b. ltb (digit b) 16 ≡ false)) run (after_prefix (λ b. ltb (digit b) 16) t), refl))
         go (suc m) run =
@@ -172,8 +178,8 @@ number_bad s e h le lt on =
 module _ (s : Text) (head base n : ℕ) (h : head ≡ head_of s) (b : base ≡ base_of s) (run : n ≡ prefix_len (λ (c : ℕ). ltb (digit c) base) (take (length s - head) (drop head s))) where
   pub end_is : head + n ≡ numeral_len s
   end_is =
-    let one : prefix_len (λ (c : ℕ). ltb (digit c) base) (take (length s - head) (drop head s)) ≡ prefix_len (λ (c : ℕ). ltb (digit c) (base_of s)) (drop (head_of s) s) = ap (prefix_len (λ (c : ℕ). ltb (digit c) base)) (take_rest s head ∙ ap (λ (j : ℕ). drop j s) h) ∙ ap (λ (j : ℕ). prefix_len (λ (c : ℕ). ltb (digit c) j) (drop (head_of s) s)) b in
-    (λ i. h i + (run ∙ one) i)
+      let one : prefix_len (λ (c : ℕ). ltb (digit c) base) (take (length s - head) (drop head s)) ≡ prefix_len (λ (c : ℕ). ltb (digit c) (base_of s)) (drop (head_of s) s) = ap (prefix_len (λ (c : ℕ). ltb (digit c) base)) (take_rest s head ∙ ap (λ (j : ℕ). drop j s) h) ∙ ap (λ (j : ℕ). prefix_len (λ (c : ℕ). ltb (digit c) j) (drop (head_of s) s)) b in
+      (λ i. h i + (run ∙ one) i)
 
   pub same_value : value base 0 (take (head + n - head) (drop head s)) ≡ value (base_of s) 0 (take (head + n - head_of s) (drop (head_of s) s))
   same_value = λ i. value (b i) 0 (take (head + n - h i) (drop (h i) s))

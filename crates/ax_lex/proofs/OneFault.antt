@@ -1,17 +1,15 @@
 -- One fault stands at a place.
-use Rattle.std.proofs.Common.{◌≡◌, ◌≤◌, ◌<◌, ℕ, ◌+◌, Bool, true, false, not, ◌&&◌, ◌||◌, cond, eqb, ltb, leb, List, [], ◌∷◌, ◌++◌, length, take, drop, get_or, Option, Some, None, refl, sym, ap, ◌∙◌, subst, arith, ⊎_elim, ◌⊎◌, inl, inr, append_assoc, append-nil, length-append}
+use Rattle.std.proofs.Common.{◌≡◌, ◌≤◌, ◌<◌, ℕ, ◌+◌, Bool, true, false, not, ◌&&◌, ◌||◌, eqb, ltb, List, [], ◌∷◌, ◌++◌, length, take, drop, get_or, Some, None, refl, sym, ap, ◌∙◌, subst, arith, ⊎_elim, append_assoc, append-nil, length-append}
 use Rattle.std.specs.List.{list_all}
 use Rattle.std.specs.Char.{is_ascii_digit}
-use Rattle.std.proofs.lemmas.Bool.{cases_Bool, false≢true, and_parts, and_from, or_right, eqb-true, le-leb}
+use Rattle.std.proofs.lemmas.Bool.{false≢true, and_parts, and_from, or_right, le-leb}
 use Rattle.std.proofs.lemmas.Bool.Decides.{nat_tests}
 use Rattle.std.proofs.lemmas.Option.{none-some, same_Some}
-use Rattle.std.proofs.lemmas.List.{append_cancel_left}
-use Rattle.ax_prog.specs.declared.tokens.Kind.{Kind}
 use Rattle.ax_lex.specs.declared.LexFault.{LexFault}
 use Rattle.ax_lex.specs.declared.LexFault.TheVariants as fault
 use Rattle.ax_lex.specs.Bytes.{Text, is_space, is_word, same, digit, AtHead}
-use Rattle.ax_lex.specs.Tokens.{is_hex, base_of, numeral, number_of, mark_of, format_of, kind_of, continues}
-use Rattle.ax_lex.specs.Pieces.{Piece, token, text_of, has_end, fresh_end, texts, tokens_of}
+use Rattle.ax_lex.specs.Tokens.{base_of, numeral, number_of, mark_of, format_of}
+use Rattle.ax_lex.specs.Pieces.{Piece, token, fresh_end, texts, tokens_of}
 use Rattle.ax_lex.specs.Faults.{Stuck, Faulty, NoInclude, extends, late}
 use Rattle.ax_lex.proofs.Unique.{fronts, span_one, sort_of, kind_sort, numeral_all}
 use Rattle.ax_lex.proofs.Exact.{number_first, extended, number_same, number_sort, stray_none, one_place}

@@ -1,10 +1,8 @@
 -- What follows of a result that is a fault.
-use Rattle.std.proofs.Common.{◌≡◌, ◌⊎◌, inl, inr, sym, List, Result, Ok, Err, IfErr}
+use Rattle.std.proofs.Common.{◌≡◌, ◌⊎◌, inl, inr, Result, Ok, Err, IfErr}
 use Rattle.ax_lex.specs.declared.LexFault.{LexFault}
 use Rattle.ax_lex.specs.declared.LexFault.TheVariants as fault
 use Rattle.ax_lex.specs.Bytes.{Text}
-use Rattle.ax_prog.specs.declared.tokens.Token.{Token}
-use Rattle.ax_lex.specs.Pieces.{SpellsTokens, IsOnlyList}
 use Rattle.ax_lex.specs.Faults.{Faulty, IsOnlyFault, IsUnspelled}
 use Rattle.ax_lex.proofs.Exact.{faulty_unspelled}
 use Rattle.ax_lex.proofs.OneFault.{one_fault}

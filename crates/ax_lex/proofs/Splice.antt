@@ -1,13 +1,12 @@
 -- A span of tokens replaced by a text in parentheses.
-use Rattle.std.proofs.Common.{◌≡◌, ◌≤◌, ◌<◌, ℕ, zero, suc, ◌+◌, Bool, true, false, not, ◌&&◌, ◌||◌, cond, eqb, ltb, List, [], ◌∷◌, ◌++◌, length, drop, map, get_or, Option, Some, None, refl, sym, ap, ◌∙◌, subst, arith, ⊎_elim, append_assoc, append-nil}
-use Rattle.std.specs.List.{list_all, flat_map}
-use Rattle.std.proofs.lemmas.Bool.{cases_Bool, and_parts, and_right, or_from, eqb-true, true≢false, false≢true}
+use Rattle.std.proofs.Common.{◌≡◌, ℕ, Bool, true, false, not, ◌&&◌, ◌||◌, eqb, ltb, List, [], ◌∷◌, ◌++◌, length, drop, get_or, Some, None, refl, sym, ap, ◌∙◌, subst, arith, ⊎_elim, append_assoc, append-nil}
+use Rattle.std.specs.List.{list_all}
+use Rattle.std.proofs.lemmas.Bool.{cases_Bool, and_parts, and_right, eqb-true, false≢true}
 use Rattle.std.proofs.lemmas.Option.{none-some}
-use Rattle.ax_prog.specs.declared.tokens.Mark.{Mark}
 use Rattle.ax_prog.specs.declared.tokens.Kind.{Kind}
-use Rattle.ax_lex.specs.Bytes.{Text, is_word, is_space, same, last_of, AtHead}
+use Rattle.ax_lex.specs.Bytes.{Text, is_word, same, last_of, AtHead}
 use Rattle.ax_lex.specs.Tokens.{marks, is_hex, lookup, mark_of, format_of, continues, kind_of}
-use Rattle.ax_lex.specs.Pieces.{Piece, space, line, block, include, token, text_of, fresh_after, fresh_end, IsPiece, texts, ArePieces, tokens_of}
+use Rattle.ax_lex.specs.Pieces.{Piece, space, line, block, include, token, text_of, fresh_after, fresh_end, IsPiece, texts, ArePieces}
 
 pub same_true : (a b : Text) → same a b ≡ true → a ≡ b
 same_true [] [] h = refl

@@ -1,5 +1,5 @@
 -- Words and marks at the front.
-use Rattle.std.proofs.Common.{◌≡◌, ◌≤◌, ◌<◌, ℕ, zero, suc, ◌+◌, Bool, true, false, not, ◌&&◌, ◌||◌, cond, eqb, ltb, List, [], ◌∷◌, ◌++◌, length, take, drop, map, get_or, Option, Some, None, refl, sym, ap, ◌∙◌, subst, arith, ⊎_elim, add-one, ◌-◌, length-drop}
+use Rattle.std.proofs.Common.{◌≡◌, ◌≤◌, ◌<◌, ℕ, zero, suc, ◌+◌, Bool, true, false, not, ◌&&◌, ◌||◌, eqb, ltb, [], ◌∷◌, ◌++◌, length, take, drop, get_or, Some, None, refl, sym, ap, ◌∙◌, subst, arith, ⊎_elim, add-one, ◌-◌, length-drop}
 use Rattle.std.specs.List.{list_all, prefix_len}
 use Rattle.std.specs.Char.{is_ascii_digit}
 use Rattle.std.proofs.lemmas.Bool.{cases_Bool, and_right, ne_eqb, false≢true, or_left, or_parts, and_left, le-ltb, eqb-true, not-false, cases_eq}
@@ -8,7 +8,7 @@ use Rattle.ax_prog.specs.declared.tokens.Mark.{Mark}
 use Rattle.ax_prog.specs.declared.tokens.Kind.{Kind}
 use Rattle.ax_prog.specs.declared.tokens.Kind.TheVariants as k
 use Rattle.ax_lex.specs.Bytes.{Text, is_word, is_letter, same, last_of, AtHead}
-use Rattle.ax_lex.specs.Tokens.{formats, marks, is_hex, mark_of, keyword_of, format_of, word_kind, continues, kind_of}
+use Rattle.ax_lex.specs.Tokens.{formats, marks, mark_of, keyword_of, format_of, word_kind, continues, kind_of}
 use Rattle.ax_lex.specs.Pieces.{line}
 use Rattle.ax_lex.specs.Fronts.{WordIs, LayoutIs}
 use Rattle.ax_lex.proofs.Splice.{lookup_none}
@@ -49,7 +49,7 @@ word_is (b ∷ s) n kind some letter digit n_is kind_is =
       within = omega (arith, prefix_len-le-length is_word s);
       piece = (
         subst (λ (w : Text). kind_of w ≡ Some kind) (sym text) (named ∙ ap (λ (x : Kind). Some x) (sym (kind_is ∙ ap (λ (w : Text). word_kind w (keyword_of w)) text))),
-        subst (λ (j : ℕ). AtHead (drop j (b ∷ s)) (λ c. continues (take j (b ∷ s)) c ≡ false)) (sym count) ends
+        subst (λ (j : ℕ). AtHead (drop j (b ∷ s)) (λ c. continues (take j (b ∷ s)) c ≡ false)) (sym count) ends,
       );
     }
 
@@ -77,8 +77,10 @@ mark_is (a ∷ s) (suc n) m some le word quote is ends =
     record {
       some = some;
       within = le;
-      piece = (rw (parts.1) (rw (parts.0) (rw (no_format (a ∷ take n s) quote) (rw is refl))),
-        at_head_weaker (drop n s) _ (λ b. continues (a ∷ take n s) b ≡ false) (λ b h. rw word (rw (h.0) (h.1))) ends);
+      piece = (
+        rw (parts.1) (rw (parts.0) (rw (no_format (a ∷ take n s) quote) (rw is refl))),
+        at_head_weaker (drop n s) _ (λ b. continues (a ∷ take n s) b ≡ false) (λ b h. rw word (rw (h.0) (h.1))) ends,
+      );
     }
 
 pub mark_three : (s : Text) (m : Mark) → 3 ≤ length s → is_word (get_or s 0 0) ≡ false → (get_or s 0 0 ≡ 34 → ⊥) → mark_of (take 3 s) ≡ Some m → WordIs (k.Mark m) 3 s
@@ -104,9 +106,9 @@ mark_one (a ∷ d ∷ t) m le word quote is none comment = mark_is (a ∷ d ∷ 
   where
     opened : (same (a ∷ []) (47 ∷ []) && (eqb d 47 || eqb d 42)) ≡ false
     opened = ⊎_elim
-      (λ (e : eqb a 47 ≡ true). let h = comment (eqb-true a 47 e) in rw (ne_eqb d 47 h.0) (rw (ne_eqb d 42 h.1) (and_right (eqb a 47 && true) false refl)))
-      (λ (e : eqb a 47 ≡ false). rw e refl)
-      (cases_Bool (eqb a 47))
+        (λ (e : eqb a 47 ≡ true). let h = comment (eqb-true a 47 e) in rw (ne_eqb d 47 h.0) (rw (ne_eqb d 42 h.1) (and_right (eqb a 47 && true) false refl)))
+        (λ (e : eqb a 47 ≡ false). rw e refl)
+        (cases_Bool (eqb a 47))
 
 -- ---- `//`
 
@@ -133,6 +135,7 @@ line_is (x ∷ y ∷ s) n le slashes is last fresh =
     zero-ne_last : (n : ℕ) (s : Text) → n ≡ 0 → last_of (take n s) ≡ 92 → ⊥
     zero-ne_last zero s e h = absurd (omega arith)
     zero-ne_last (suc n) s e h = absurd (omega arith)
+
     at_end : (w : Text) → (0 < length w → last_of (take n s) ≡ 92 → ⊥) → AtHead w (λ b. not (eqb b 10) ≡ false) → AtHead w (λ b. (b ≡ 10) × (last_of (take n s) ≡ 92 → ⊥))
     at_end [] safe h = tt
     at_end (b ∷ w) safe h = (eqb-true b 10 (not-false (eqb b 10) h), safe (omega arith))

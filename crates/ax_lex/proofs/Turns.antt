@@ -1,5 +1,5 @@
 -- A turn of the lexer's loop.
-use Rattle.std.proofs.Common.{◌≡◌, ◌≤◌, ◌<◌, ℕ, zero, suc, ◌+◌, Bool, true, List, [], ◌∷◌, ◌++◌, length, take, drop, get_or, refl, sym, ap, ◌∙◌, subst, arith, append_assoc, append-nil, zero-add, length-append, length-take-le, false, length-drop, add-zero}
+use Rattle.std.proofs.Common.{◌≡◌, ◌≤◌, ◌<◌, ℕ, zero, suc, ◌+◌, Bool, true, List, [], ◌∷◌, ◌++◌, length, take, drop, refl, sym, ap, ◌∙◌, subst, arith, append_assoc, append-nil, zero-add, length-append, length-take-le, false, length-drop, add-zero}
 use Rattle.std.proofs.Math.Nat.{suc-add}
 use Rattle.std.proofs.lemmas.List.{take-append-drop, drop-drop, take_all, drop_all}
 use Rattle.ax_prog.specs.declared.tokens.Token.{Token}
@@ -82,8 +82,8 @@ stops bytes at fresh tokens why s stuck =
       proper = s.proper;
       few = subst (λ (w : List Token). length w ≤ 20000) s.found s.few;
       stuck = subst (λ (w : List Token). Stuck (length (texts s.pieces)) (fresh_end true s.pieces) (length w) (drop at bytes) why) s.found
-        (subst (λ (f : Bool). Stuck (length (texts s.pieces)) f (length tokens) (drop at bytes) why) s.flag
-        (subst (λ (j : ℕ). Stuck j fresh (length tokens) (drop at bytes) why) place stuck));
+          (subst (λ (f : Bool). Stuck (length (texts s.pieces)) f (length tokens) (drop at bytes) why) s.flag
+          (subst (λ (j : ℕ). Stuck j fresh (length tokens) (drop at bytes) why) place stuck));
     }
 
 pub turn_layout : (bytes : Text) (at n : ℕ) (fresh after : Bool) (tokens : List Token) → SoFar bytes at fresh tokens → LayoutIs fresh n after (drop at bytes) → SoFar bytes (at + n) after tokens

@@ -1,8 +1,8 @@
 -- Bytes spell at most one token list.
-use Rattle.std.proofs.Common.{pos, ◌≡◌, ◌≤◌, ◌<◌, ℕ, zero, suc, ◌+◌, ◌-◌, Bool, true, false, not, ◌&&◌, ◌||◌, cond, eqb, ltb, leb, List, [], ◌∷◌, ◌++◌, length, take, drop, map, get_or, Option, Some, None, refl, sym, ap, ◌∙◌, subst, arith, ⊎_elim, ◌⊎◌, inl, inr, append-nil, append_assoc, is_some, option_map}
+use Rattle.std.proofs.Common.{pos, ◌≡◌, ◌≤◌, ℕ, Bool, true, false, not, ◌&&◌, ◌||◌, cond, eqb, ltb, leb, List, [], ◌∷◌, ◌++◌, get_or, Option, Some, None, refl, sym, ap, ◌∙◌, subst, arith, ⊎_elim, ◌⊎◌, inl, inr, append-nil, append_assoc, is_some, option_map}
 use Rattle.std.specs.List.{list_all}
-use Rattle.std.specs.Char.{is_ascii_digit, is_ascii_alphabetic}
-use Rattle.std.proofs.lemmas.Bool.{cases_Bool, and_parts, and_right, and_left, or_cases, or_right, or_left, or_parts, eqb-true, false≢true, not-true, and_from, lt-ltb, ltb-true, eq-eqb, leb-true}
+use Rattle.std.specs.Char.{is_ascii_digit}
+use Rattle.std.proofs.lemmas.Bool.{cases_Bool, and_parts, and_right, or_cases, or_right, or_left, or_parts, eqb-true, false≢true, and_from, lt-ltb, ltb-true, eq-eqb, leb-true}
 use Rattle.std.proofs.lemmas.Bool.Decides.{nat_tests}
 use Rattle.std.proofs.lemmas.Option.{none-some, cond_some}
 use Rattle.std.proofs.lemmas.List.{append_cancel_left}
@@ -87,11 +87,11 @@ number_all (a ∷ []) n h = list_all_weaker (λ c. ltb (digit c) (cond (eqb a 48
     small false = omega arith
 number_all (a ∷ x ∷ ds) n h = ⊎_elim
     (λ (t : is_hex (a ∷ x ∷ ds) ≡ true).
-      let p = and_parts (eqb a 48) (eqb x 120 || eqb x 88) t in
-      let digits : list_all is_word ds ≡ true = list_all_weaker (λ c. ltb (digit c) 16) is_word digit_word ds (numeral_all 16 ds n (sym (rw t refl) ∙ h)) in
-      and_from (is_word a) (list_all is_word (x ∷ ds)) (ap is_word (eqb-true a 48 p.0)) (and_from (is_word x) (list_all is_word ds) (hex_word x p.1) digits))
+    let p = and_parts (eqb a 48) (eqb x 120 || eqb x 88) t in
+    let digits : list_all is_word ds ≡ true = list_all_weaker (λ c. ltb (digit c) 16) is_word digit_word ds (numeral_all 16 ds n (sym (rw t refl) ∙ h)) in
+    and_from (is_word a) (list_all is_word (x ∷ ds)) (ap is_word (eqb-true a 48 p.0)) (and_from (is_word x) (list_all is_word ds) (hex_word x p.1) digits))
     (λ (t : is_hex (a ∷ x ∷ ds) ≡ false).
-      list_all_weaker (λ c. ltb (digit c) (cond (eqb a 48) 8 10)) is_word (digit_below (cond (eqb a 48) 8 10) (small (eqb a 48))) (a ∷ x ∷ ds) (numeral_all (cond (eqb a 48) 8 10) (a ∷ x ∷ ds) n (sym (rw t refl) ∙ h)))
+    list_all_weaker (λ c. ltb (digit c) (cond (eqb a 48) 8 10)) is_word (digit_below (cond (eqb a 48) 8 10) (small (eqb a 48))) (a ∷ x ∷ ds) (numeral_all (cond (eqb a 48) 8 10) (a ∷ x ∷ ds) n (sym (rw t refl) ∙ h)))
     (cases_Bool (is_hex (a ∷ x ∷ ds)))
   where
     small : (b : Bool) → cond b 8 10 ≤ 16
@@ -111,14 +111,14 @@ some_of_map (Some n) f k h = (n, refl)
 pub word_all : (a : ℕ) (w : Text) (kind : Kind) → is_word a ≡ true → kind_of (a ∷ w) ≡ Some kind → list_all is_word (a ∷ w) ≡ true
 word_all a w kind word h = ⊎_elim
     (λ (d : is_ascii_digit a ≡ true).
-      let s = some_of_map (small (number_of (a ∷ w))) (λ (n : ℕ). k.Number (pos n)) kind (let e : kind_of (a ∷ w) ≡ option_map (λ (n : ℕ). k.Number (pos n)) (small (number_of (a ∷ w))) = rw d refl in sym e ∙ h) in
-      number_all (a ∷ w) s.0 (small_some (number_of (a ∷ w)) s.0 s.1).0)
+    let s = some_of_map (small (number_of (a ∷ w))) (λ (n : ℕ). k.Number (pos n)) kind (let e : kind_of (a ∷ w) ≡ option_map (λ (n : ℕ). k.Number (pos n)) (small (number_of (a ∷ w))) = rw d refl in sym e ∙ h) in
+    number_all (a ∷ w) s.0 (small_some (number_of (a ∷ w)) s.0 s.1).0)
     (λ (d : is_ascii_digit a ≡ false).
-      let letter : is_letter a ≡ true = ⊎_elim (λ (t : is_letter a ≡ true). t) (λ (t : is_ascii_digit a ≡ true). absurd (false≢true (sym d ∙ t))) (or_cases (is_letter a) (is_ascii_digit a) word) in
-      ⊎_elim
-      (λ (t : list_all is_word w ≡ true). and_from (is_word a) (list_all is_word w) word t)
-      (λ (t : list_all is_word w ≡ false). absurd (none-some kind (sym (rw d (rw letter (rw t refl))) ∙ h)))
-      (cases_Bool (list_all is_word w)))
+    let letter : is_letter a ≡ true = ⊎_elim (λ (t : is_letter a ≡ true). t) (λ (t : is_ascii_digit a ≡ true). absurd (false≢true (sym d ∙ t))) (or_cases (is_letter a) (is_ascii_digit a) word) in
+    ⊎_elim
+    (λ (t : list_all is_word w ≡ true). and_from (is_word a) (list_all is_word w) word t)
+    (λ (t : list_all is_word w ≡ false). absurd (none-some kind (sym (rw d (rw letter (rw t refl))) ∙ h)))
+    (cases_Bool (list_all is_word w)))
     (cases_Bool (is_ascii_digit a))
 
 -- ---- marks
@@ -189,9 +189,9 @@ other_cases a w k word h =
 grow_other : (a : ℕ) (u : Text) (b : ℕ) (m : Text) (k j : Kind) → is_word a ≡ false → kind_of (a ∷ u) ≡ Some k → kind_of (a ∷ (u ++ b ∷ m)) ≡ Some j → (is_some (mark_of (a ∷ (u ++ b ∷ []))) || (same (a ∷ u) (47 ∷ []) && (eqb b 47 || eqb b 42))) ≡ true
 grow_other a u b m k j word h g = ⊎_elim
     (λ (f : (i : ℕ) × (format_of (a ∷ (u ++ b ∷ m)) ≡ Some i)). ⊎_elim
-      (λ (q : (i : ℕ) × (format_of (a ∷ u) ≡ Some i)). absurd (format_fronts (a ∷ u) b m q.0 f.0 q.1 f.1))
-      (λ (q : (x : Mark) × (mark_of (a ∷ u) ≡ Some x)). absurd (false≢true (sym (ap not (format_quote (a ∷ (u ++ b ∷ m)) f.0 f.1)) ∙ mark_no_quote (a ∷ u) q.0 q.1)))
-      (other_cases a u k word h))
+    (λ (q : (i : ℕ) × (format_of (a ∷ u) ≡ Some i)). absurd (format_fronts (a ∷ u) b m q.0 f.0 q.1 f.1))
+    (λ (q : (x : Mark) × (mark_of (a ∷ u) ≡ Some x)). absurd (false≢true (sym (ap not (format_quote (a ∷ (u ++ b ∷ m)) f.0 f.1)) ∙ mark_no_quote (a ∷ u) q.0 q.1)))
+    (other_cases a u k word h))
     (λ (f : (x : Mark) × (mark_of (a ∷ (u ++ b ∷ m)) ≡ Some x)). or_left (is_some (mark_of (a ∷ (u ++ b ∷ [])))) _ (prefix_marks-at [] (a ∷ u) b m (mark_fronts (a ∷ (u ++ b ∷ m)) f.0 f.1)))
     (other_cases a (u ++ b ∷ m) j word g)
 
@@ -203,9 +203,9 @@ grow (a ∷ u) b m k j h g = grown
   where
     grown : continues (a ∷ u) b ≡ true
     grown = ⊎_elim
-      (λ (t : is_word a ≡ true). rw t (or_left (is_word b) (is_hex (a ∷ u) && (eqb (last_of (a ∷ u)) 101 || eqb (last_of (a ∷ u)) 69) && (eqb b 43 || eqb b 45)) (list_all-at is_word (a ∷ u) b m (word_all a (u ++ b ∷ m) j t g))))
-      (λ (t : is_word a ≡ false). rw t (grow_other a u b m k j t h g))
-      (cases_Bool (is_word a))
+        (λ (t : is_word a ≡ true). rw t (or_left (is_word b) (is_hex (a ∷ u) && (eqb (last_of (a ∷ u)) 101 || eqb (last_of (a ∷ u)) 69) && (eqb b 43 || eqb b 45)) (list_all-at is_word (a ∷ u) b m (word_all a (u ++ b ∷ m) j t g))))
+        (λ (t : is_word a ≡ false). rw t (grow_other a u b m k j t h g))
+        (cases_Bool (is_word a))
 
 -- the longest token is taken: no token's text stands at its place and is longer (6.4p4)
 pub longest_token : (fresh : Bool) (w rest m more : Text) (kind longer : Kind) → IsPiece fresh (token w kind) rest → rest ≡ m ++ more → kind_of (w ++ m) ≡ Some longer → m ≡ []
@@ -241,14 +241,14 @@ slash_sort b x h g = rw h (rw g refl)
 one_sort : (a b : ℕ) (x : Text) → sort_of (a ∷ []) ≡ 4 → ((same (a ∷ []) (47 ∷ []) && (eqb b 47 || eqb b 42)) ≡ false) → sort_of (a ∷ b ∷ x) ≡ 4
 one_sort a b x h g = ⊎_elim
     (λ (t : eqb a 47 ≡ true).
-      let is = eqb-true a 47 t in
-      let q : (eqb b 47 || eqb b 42) ≡ false = sym (rw t refl) ∙ g in
-      let p = or_parts (eqb b 47) (eqb b 42) q in
-      subst (λ (c : ℕ). sort_of (c ∷ b ∷ x) ≡ 4) (sym is) (slash_sort b x p.0 p.1))
+    let is = eqb-true a 47 t in
+    let q : (eqb b 47 || eqb b 42) ≡ false = sym (rw t refl) ∙ g in
+    let p = or_parts (eqb b 47) (eqb b 42) q in
+    subst (λ (c : ℕ). sort_of (c ∷ b ∷ x) ≡ 4) (sym is) (slash_sort b x p.0 p.1))
     (λ (t : eqb a 47 ≡ false).
-      let l : sort_of (a ∷ b ∷ x) ≡ cond (is_space a) 0 (cond (eqb a 35) 3 4) = rw t refl in
-      let r : sort_of (a ∷ []) ≡ cond (is_space a) 0 (cond (eqb a 35) 3 4) = rw t refl in
-      l ∙ sym r ∙ h)
+    let l : sort_of (a ∷ b ∷ x) ≡ cond (is_space a) 0 (cond (eqb a 35) 3 4) = rw t refl in
+    let r : sort_of (a ∷ []) ≡ cond (is_space a) 0 (cond (eqb a 35) 3 4) = rw t refl in
+    l ∙ sym r ∙ h)
     (cases_Bool (eqb a 47))
 
 pub kind_sort : (w : Text) (k : Kind) (r : Text) → kind_of w ≡ Some k → AtHead r (λ b. continues w b ≡ false) → sort_of (w ++ r) ≡ 4
@@ -257,9 +257,9 @@ kind_sort [] k r h e = absurd (none-some k h)
 kind_sort (a ∷ w) k r h e = ⊎_elim
     (λ (t : is_word a ≡ true). let p = word_plain a t in rw (p.0) (rw (p.1) (rw (p.2) refl)))
     (λ (t : is_word a ≡ false). ⊎_elim
-      (λ (f : (i : ℕ) × (format_of (a ∷ w) ≡ Some i)). subst (λ (c : ℕ). sort_of (c ∷ (w ++ r)) ≡ 4) (sym (eqb-true a 34 (format_quote (a ∷ w) f.0 f.1))) refl)
-      (λ (f : (x : Mark) × (mark_of (a ∷ w) ≡ Some x)). mark_case a w r t (mark_sort (a ∷ w) f.0 f.1) e)
-      (other_cases a w k t h))
+    (λ (f : (i : ℕ) × (format_of (a ∷ w) ≡ Some i)). subst (λ (c : ℕ). sort_of (c ∷ (w ++ r)) ≡ 4) (sym (eqb-true a 34 (format_quote (a ∷ w) f.0 f.1))) refl)
+    (λ (f : (x : Mark) × (mark_of (a ∷ w) ≡ Some x)). mark_case a w r t (mark_sort (a ∷ w) f.0 f.1) e)
+    (other_cases a w k t h))
     (cases_Bool (is_word a))
   where
     mark_case : (a : ℕ) (w r : Text) → is_word a ≡ false → sort_of (a ∷ w) ≡ 4 → AtHead r (λ b. continues (a ∷ w) b ≡ false) → sort_of (a ∷ (w ++ r)) ≡ 4

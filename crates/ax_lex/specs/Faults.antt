@@ -1,5 +1,5 @@
 -- Where bytes spell no tokens, and why.
-use Rattle.std.specs.Prelude.{◌≡◌, ◌≤◌, ◌<◌, ℕ, ◌+◌, Bool, true, false, not, ◌&&◌, ◌||◌, if◌then◌else◌, ◌==◌, nat_lt, nat_le, List, [], ◌∷◌, ◌++◌, length, take, Option, Some, None, codes}
+use Rattle.std.specs.Prelude.{◌≡◌, ◌≤◌, ◌<◌, ℕ, ◌+◌, Bool, true, false, not, ◌&&◌, ◌||◌, if◌then◌else◌, ◌==◌, nat_lt, nat_le, List, [], ◌∷◌, ◌++◌, length, take, Some, None, codes}
 use Rattle.std.specs.List.{list_all}
 use Rattle.ax_prog.specs.declared.tokens.Kind.{Kind}
 use Rattle.ax_prog.specs.declared.tokens.Token.{Token}

@@ -1,15 +1,14 @@
 -- What the lexer's parts find first; private contracts alone cite this.
-use Rattle.std.specs.Prelude.{◌≡◌, ◌≤◌, ◌<◌, ℕ, ◌+◌, Bool, true, false, List, [], ◌∷◌, ◌++◌, take, drop, length, slice_index, ◌==◌, ◌&&◌, ◌||◌, if◌then◌else◌, Option, Some, None, nat_lt, ◌⊎◌, option_map, codes}
+use Rattle.std.specs.Prelude.{◌≡◌, ◌≤◌, ◌<◌, ℕ, ◌+◌, Bool, true, false, [], ◌∷◌, ◌++◌, take, drop, length, slice_index, ◌==◌, ◌&&◌, ◌||◌, if◌then◌else◌, Option, Some, None, nat_lt, ◌⊎◌, option_map}
 use Rattle.std.specs.List.{prefix_len}
 use Rattle.ax_prog.specs.declared.tokens.Kind.{Kind}
-use Rattle.ax_prog.specs.declared.tokens.Token.{Token}
 use Rattle.ax_lex.specs.declared.numbers.NumberFault.{NumberFault}
 use Rattle.ax_lex.specs.declared.numbers.NumberFault.TheVariants.{Large, Bad}
 use Rattle.ax_lex.specs.declared.front.Front.{Front}
 use Rattle.ax_lex.specs.declared.front.Front.TheVariants.{Layout, Word}
-use Rattle.ax_lex.specs.Bytes.{Text, is_space, digit, AtHead}
+use Rattle.ax_lex.specs.Bytes.{Text, digit, AtHead}
 use Rattle.ax_lex.specs.Tokens.{is_hex, base_of, number_of, continues}
-use Rattle.ax_lex.specs.Pieces.{IsPiece, Piece, token, text_of, token_of, fresh_after, has_end}
+use Rattle.ax_lex.specs.Pieces.{IsPiece, Piece, token, text_of, token_of, fresh_after}
 use Rattle.ax_lex.specs.Faults.{extends}
 
 -- a token of n bytes stands first

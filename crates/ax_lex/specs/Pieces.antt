@@ -1,7 +1,6 @@
 -- Which tokens bytes spell.
 use Rattle.std.specs.Prelude.{◌≡◌, ℕ, ◌+◌, Bool, true, false, not, ◌&&◌, ◌||◌, ◌==◌, List, [], ◌∷◌, ◌++◌, length, slice_index, Some, codes}
 use Rattle.std.specs.List.{list_all, flat_map}
-use Rattle.ax_prog.specs.declared.Span.{Span}
 use Rattle.ax_prog.specs.declared.tokens.Kind.{Kind}
 use Rattle.ax_prog.specs.declared.tokens.Token.{Token}
 use Rattle.ax_lex.specs.Bytes.{Text, is_blank, is_space, last_of, AtHead}

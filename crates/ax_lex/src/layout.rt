@@ -59,7 +59,9 @@ fn path_len(s: &[u8]) -> usize
     ensures value { result ≡ prefix_len (λ b. not (b == 62 || b == 10)) s.now }
     ensures within { result ≤ length s.now }
 {
-    s.iter().take_while(|b| !(**b == b'>' || **b == b'\n')).count()
+    s.iter()
+        .take_while(|b| !(**b == b'>' || **b == b'\n'))
+        .count()
 }
 
 // The length of an `#include <..>` whose `#` stands first.

@@ -10,12 +10,13 @@ mod front;
 mod layout;
 mod numbers;
 mod tables;
-mod words;
-
 #[cfg(test)]
 mod tests;
+mod words;
 
-pub use tables::{FORMATS, KEYWORDS, MARKS};
+ghost use Rattle.std.specs.Prelude.{◌≡◌, ◌≤◌, ◌<◌, ◌^◌, length, IfOk, IfErr, ◌⊎◌};
+ghost use Rattle.ax_lex.specs.Pieces.{SpellsTokens, IsOnlyList};
+ghost use Rattle.ax_lex.specs.Faults.{Faulty, IsOnlyFault, IsUnspelled};
 
 use ax_prog::Span;
 use ax_prog::tokens::Token;
@@ -23,10 +24,7 @@ use classes::past;
 use front::{Front, first};
 use sqlite_items::Items;
 use std::alloc::{AllocError, Global};
-
-ghost use Rattle.std.specs.Prelude.{◌≡◌, ◌≤◌, ◌<◌, ◌^◌, length, IfOk, IfErr, ◌⊎◌};
-ghost use Rattle.ax_lex.specs.Pieces.{SpellsTokens, IsOnlyList};
-ghost use Rattle.ax_lex.specs.Faults.{Faulty, IsOnlyFault, IsUnspelled};
+pub use tables::{FORMATS, KEYWORDS, MARKS};
 
 /// How many tokens a source has at most.
 pub const MAX_TOKENS: usize = 20_000;

@@ -1,4 +1,4 @@
-use Rattle.std.proofs.Common.{◌≡◌, ◌⊎◌, arith, rules, drop, subst, inr, length, IfErr, Err}
+use Rattle.std.proofs.Common.{◌≡◌, ◌⊎◌, arith, rules, drop, subst, inr, IfErr, Err}
 use Rattle.ax_lex.specs.declared.front.Front.{Front}
 use Rattle.ax_lex.specs.Bytes.{Text}
 use Rattle.ax_lex.specs.Fronts.{FrontIs}

@@ -1,4 +1,4 @@
-use Rattle.std.proofs.Common.{◌≡◌, ◌≤◌, ◌<◌, ◌+◌, ◌^◌, length, option_map}
+use Rattle.std.proofs.Common.{◌≡◌, ◌<◌, ◌+◌, ◌^◌, length, option_map}
 use Rattle.ax_lex.specs.Fronts.{end_of}
 use Rattle.ax_lex.proofs.layout.block_body.Given as goal
 

@@ -1,5 +1,4 @@
-use Rattle.std.proofs.Common.{sym, refl, ap, ◌∙◌, arith, not, false}
-use Rattle.std.proofs.lemmas.Bool.{not-false, not-true}
+use Rattle.std.proofs.Common.{sym, refl, ◌∙◌, arith}
 use Rattle.ax_lex.proofs.Includes.{no_word, no_angle, no_close, include_found}
 use Rattle.ax_lex.proofs.layout.include_len.Goals as goal
 

@@ -1,4 +1,4 @@
-use Rattle.std.proofs.Common.{sym, refl, ap, ◌∙◌, arith, drop, not, eqb, subst, ◌≡◌, ℕ}
+use Rattle.std.proofs.Common.{arith, not, eqb, subst, ◌≡◌, ℕ}
 use Rattle.std.specs.List.{prefix_len}
 use Rattle.std.proofs.lemmas.List.{take_rest}
 use Rattle.ax_lex.specs.Bytes.{Text}

@@ -1,4 +1,3 @@
-use Rattle.std.proofs.Common.{sym, refl, ap, ◌∙◌, arith}
 use Rattle.ax_lex.proofs.Numerals.{value_over}
 use Rattle.ax_lex.proofs.numbers.value_of.Goals as goal
 

@@ -1,4 +1,4 @@
-use Rattle.std.proofs.Common.{sym, refl, ap, ◌∙◌, arith}
+use Rattle.std.proofs.Common.{sym, ◌∙◌, arith}
 use Rattle.ax_lex.proofs.Comments.{format_plain, format_line, format_space, no_format_at}
 use Rattle.ax_lex.proofs.words.take_format.Goals as goal
 use Rattle.ax_lex.proofs.words.take_format.Goals.{else-s-ge4-via-then-s-ge4+else-same, else-s-ge4-via-else-s-ge4, else-s-ge6-via-then-s-ge6+else-same-2, else-s-ge6-via-else-s-ge6, else-s-ge5-via-then-s-ge5+else-same-3, else-s-ge5-via-else-s-ge5}

@@ -1,4 +1,4 @@
-use Rattle.std.proofs.Common.{sym, refl, ap, ◌∙◌, arith}
+use Rattle.std.proofs.Common.{sym, ◌∙◌, arith}
 use Rattle.ax_lex.proofs.Texts.{mark_one, mark_two, mark_three}
 use Rattle.ax_lex.proofs.words.take_mark.Goals as goal
 use Rattle.ax_lex.proofs.words.take_mark.Goals.{then-s-ge3+in_default, else-s-ge3, then-s-ge2+in_default-mark_of, else-s-ge2}

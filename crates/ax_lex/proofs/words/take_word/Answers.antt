@@ -1,4 +1,4 @@
-use Rattle.std.proofs.Common.{sym, refl, ap, ◌∙◌, take, Option}
+use Rattle.std.proofs.Common.{sym, ap, ◌∙◌, take, Option}
 use Rattle.ax_prog.specs.declared.tokens.Keyword.{Keyword}
 use Rattle.ax_prog.specs.declared.tokens.Kind.TheVariants as k
 use Rattle.ax_lex.specs.Bytes.{Text}
