@@ -22,8 +22,8 @@ NoInclude fresh s = (a b name rest : Text) → s ≡ text_of (include a b name) 
 abbrev pub late : ℕ → ℕ → LexFault → LexFault
 late count at f = if nat_le MAX_TOKENS count then fault.TooManyTokens at else f
 
--- Behind whole pieces with so many tokens no piece goes on: at this place, with this rest, for this reason. (6.4.8 makes a
--- number of digits, letters and what is like them, so a number ends before none of these.)
+-- Behind whole pieces with so many tokens no piece goes on: at this place, with this rest, for this reason. A number of C
+-- (6.4.8) takes in each letter and digit behind it, and a sign behind e, so one that such a byte follows is none here.
 pub data Stuck : ℕ → Bool → ℕ → Text → LexFault → Type 0 where
   -- a byte with which nothing begins
   stray : {at : ℕ} {fresh : Bool} {count : ℕ} (b : ℕ) (r : Text) → is_space b ≡ false → is_word b ≡ false → mark_of (b ∷ []) ≡ None → ((n : ℕ) → format_of (take n (b ∷ r)) ≡ None) → NoInclude fresh (b ∷ r) → Stuck at fresh count (b ∷ r) (fault.BadByte at)
