@@ -12,7 +12,7 @@ use Rattle.ax_lex.specs.Pieces.{block, has_end}
 use Rattle.ax_lex.specs.Fronts.{WordIs, LayoutIs, end_of}
 use Rattle.ax_lex.specs.Faults.{Stuck}
 use Rattle.ax_lex.proofs.Texts.{list_all_prefix, after_prefix}
-use Rattle.ax_lex.proofs.Splice.{same_true}
+use Rattle.ax_lex.proofs.Lookups.{same_true}
 
 -- ---- `/* */`
 

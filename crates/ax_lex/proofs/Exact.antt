@@ -17,8 +17,8 @@ use Rattle.ax_lex.specs.Faults.{Stuck, Faulty, NoInclude, extends, late}
 use Rattle.ax_prog.specs.declared.tokens.Token.{Token}
 use Rattle.ax_lex.proofs.Unique.{fronts, span_one, has_end-at, sort_of, sort, sort_is, number_all, other_cases, mark_fronts, list_all-at, small_some, some_of_map, piece_one, line_heads, word_plain, kind_sort, numeral_all, prefix_marks}
 use Rattle.ax_lex.proofs.Comments.{take_front}
-use Rattle.ax_lex.proofs.Splice.{ArePieces-parts}
-use Rattle.ax_lex.proofs.Turns.{tokens_of-append}
+use Rattle.ax_lex.proofs.Sequences.{ArePieces-parts}
+use Rattle.ax_lex.proofs.Sequences.{tokens_of-append}
 
 -- a digit begins a numeral
 pub number_first : (w : Text) (n : ℕ) → number_of w ≡ Some n → (d : ℕ) × (t : Text) × (w ≡ d ∷ t) × (is_ascii_digit d ≡ true)

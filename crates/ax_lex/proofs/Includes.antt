@@ -9,7 +9,7 @@ use Rattle.ax_lex.specs.Pieces.{include, text_of, IsPiece}
 use Rattle.ax_lex.specs.Fronts.{LayoutIs}
 use Rattle.ax_lex.specs.Faults.{NoInclude}
 use Rattle.ax_lex.proofs.Texts.{list_all_prefix, after_prefix}
-use Rattle.ax_lex.proofs.Splice.{same_true}
+use Rattle.ax_lex.proofs.Lookups.{same_true}
 use Rattle.ax_lex.proofs.Comments.{take_front}
 use Rattle.ax_lex.proofs.Unique.{span_one, include_flat}
 

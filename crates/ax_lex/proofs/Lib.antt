@@ -2,6 +2,8 @@ mod Numerals
 mod Comments
 mod Includes
 mod Firsts
+pub mod Lookups
+pub mod Sequences
 pub mod Splice
 pub mod Texts
 pub mod Turns

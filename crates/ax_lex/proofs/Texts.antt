@@ -11,7 +11,7 @@ use Rattle.ax_lex.specs.Bytes.{Text, is_word, is_letter, same, last_of, AtHead}
 use Rattle.ax_lex.specs.Tokens.{formats, marks, mark_of, keyword_of, format_of, word_kind, continues, kind_of}
 use Rattle.ax_lex.specs.Pieces.{line}
 use Rattle.ax_lex.specs.Fronts.{WordIs, LayoutIs}
-use Rattle.ax_lex.proofs.Splice.{lookup_none}
+use Rattle.ax_lex.proofs.Lookups.{lookup_none}
 
 pub one-add : (n : ℕ) → 1 + n ≡ suc n
 one-add n = omega arith

@@ -13,7 +13,7 @@ use Rattle.ax_lex.specs.Pieces.{Piece, token, text_of, IsPiece, fresh_after, fre
 use Rattle.ax_lex.specs.Fronts.{FrontIs, WordIs, LayoutIs}
 use Rattle.ax_lex.specs.Faults.{Stuck, Faulty}
 use Rattle.ax_lex.proofs.Firsts.{too_many}
-use Rattle.ax_lex.proofs.Splice.{texts-append, ArePieces-append}
+use Rattle.ax_lex.proofs.Sequences.{texts-append, fresh_end-append, ArePieces-append, tokens_of-append}
 
 take_add : (a n : ℕ) (xs : Text) → take (a + n) xs ≡ take a xs ++ take n (drop a xs)
 take_add zero n xs = rw zero-add refl
@@ -23,17 +23,6 @@ take_add (suc a) n [] = rw suc-add (take_nil n)
     take_nil zero = refl
     take_nil (suc n) = refl
 take_add (suc a) n (x ∷ xs) = rw suc-add (ap (λ (w : Text). x ∷ w) (take_add a n xs))
-
-pub tokens_of-append : (at : ℕ) (ps qs : List Piece) → tokens_of at (ps ++ qs) ≡ tokens_of at ps ++ tokens_of (at + length (texts ps)) qs
-tokens_of-append at [] qs = rw add-zero refl
-tokens_of-append at (p ∷ ps) qs =
-    let n = length (text_of p) in
-    let sum : at + n + length (texts ps) ≡ at + length (text_of p ++ texts ps) = omega (arith, length-append (text_of p) (texts ps)) in
-    ap (λ (w : List Token). token_of at p ++ w) (tokens_of-append (at + n) ps qs ∙ ap (λ (j : ℕ). tokens_of (at + n) ps ++ tokens_of j qs) sum) ∙ sym (append_assoc (token_of at p) (tokens_of (at + n) ps) (tokens_of (at + length (text_of p ++ texts ps)) qs))
-
-pub fresh_end-append : (f : Bool) (ps : List Piece) (p : Piece) → fresh_end f (ps ++ p ∷ []) ≡ fresh_after (fresh_end f ps) p
-fresh_end-append f [] p = refl
-fresh_end-append f (q ∷ ps) p = fresh_end-append (fresh_after f q) ps p
 
 -- the bytes before the place are these pieces
 pub record SoFar (bytes : Text) (at : ℕ) (fresh : Bool) (tokens : List Token) : Type 0 where
@@ -60,7 +49,7 @@ turn bytes at n fresh after tokens p s le text is next few =
       joined = take_add at n bytes ∙ ap (λ (w : Text). w ++ take n (drop at bytes)) s.joined ∙ ap (λ (w : Text). texts s.pieces ++ w) (sym text ∙ sym (append-nil (text_of p))) ∙ sym (texts-append s.pieces (p ∷ []));
       proper = ArePieces-append true s.pieces (p ∷ []) rest (subst (λ (w : Text). ArePieces true s.pieces w) split s.proper) (subst (λ (f : Bool). IsPiece f p rest) s.flag (subst (λ (w : Text). IsPiece fresh p w) dropped is), tt);
       found = ap (λ (w : List Token). w ++ token_of at p) s.found ∙ ap (λ (j : ℕ). tokens_of 0 s.pieces ++ token_of j p) (sym place ∙ sym (zero-add (length (texts s.pieces)))) ∙ ap (λ (w : List Token). tokens_of 0 s.pieces ++ w) (sym (append-nil (token_of (0 + length (texts s.pieces)) p))) ∙ sym (tokens_of-append 0 s.pieces (p ∷ []));
-      flag = sym next ∙ ap (λ (f : Bool). fresh_after f p) s.flag ∙ sym (fresh_end-append true s.pieces p);
+      flag = sym next ∙ ap (λ (f : Bool). fresh_after f p) s.flag ∙ sym (fresh_end-append true s.pieces (p ∷ []));
       few = few;
     }
 

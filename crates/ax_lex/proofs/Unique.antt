@@ -13,7 +13,7 @@ use Rattle.ax_lex.specs.Bytes.{Text, is_word, is_letter, is_space, is_blank, dig
 use Rattle.ax_lex.specs.Tokens.{formats, marks, is_hex, numeral, number_of, small, lookup, mark_of, format_of, continues, other_kind, kind_of}
 use Rattle.ax_lex.specs.Pieces.{Piece, space, line, block, include, token, text_of, has_end, fresh_after, IsPiece, texts, ArePieces, tokens_of, SpellsTokens}
 use Rattle.ax_prog.specs.declared.tokens.Token.{Token}
-use Rattle.ax_lex.proofs.Splice.{lookup_none}
+use Rattle.ax_lex.proofs.Lookups.{lookup_none, lookup_some}
 
 pub digit_word : (c : ℕ) → ltb (digit c) 16 ≡ true → is_word c ≡ true
 digit_word c h = grind (arith, nat_tests)
@@ -56,12 +56,6 @@ mark_sort w m h = ⊎_elim
     (λ (t : begins_well w ≡ true). eqb-true (sort_of w) 4 t)
     (λ (t : begins_well w ≡ false). absurd (none-some m (sym (lookup_none begins_well marks w refl t) ∙ h)))
     (cases_Bool (begins_well w))
-
-lookup_some : {K : Type 0} (test : Text → Bool) (ps : List (Text × K)) (w : Text) (x : K) → list_all (λ p. test p.0) ps ≡ true → lookup ps w ≡ Some x → test w ≡ true
-lookup_some test ps w x all h = ⊎_elim
-    (λ (t : test w ≡ true). t)
-    (λ (t : test w ≡ false). absurd (none-some x (sym (lookup_none test ps w all t) ∙ h)))
-    (cases_Bool (test w))
 
 -- ---- words
 

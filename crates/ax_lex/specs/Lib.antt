@@ -3,3 +3,4 @@ pub mod Tokens
 pub mod Pieces
 pub mod Fronts
 pub mod Faults
+pub mod Splices
