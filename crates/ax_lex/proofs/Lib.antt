@@ -5,6 +5,7 @@ mod Firsts
 pub mod Lookups
 pub mod Sequences
 pub mod Splice
+pub mod Printed
 pub mod Texts
 pub mod Turns
 pub mod Unique

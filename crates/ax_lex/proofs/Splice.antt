@@ -1,5 +1,7 @@
 -- A stretch of tokens replaced by a text in parentheses.
-use Rattle.std.proofs.Common.{◌≡◌, ℕ, ◌+◌, ◌-◌, Bool, true, false, not, ◌&&◌, ◌||◌, eqb, ltb, List, [], ◌∷◌, ◌++◌, length, take, drop, map, get_or, Option, Some, None, refl, sym, ap, ◌∙◌, subst, arith, ⊎_elim, append_assoc, append-nil, add-zero, zero-add, length-append}
+use Rattle.std.proofs.Common.{◌≡◌, ℕ, ◌+◌, ◌-◌, Bool, true, false, not, ◌&&◌, ◌||◌, eqb, ltb, List, [], ◌∷◌, ◌++◌, length, take, drop, map, get_or, Option, Some, None, refl, sym, ap, ◌∙◌, subst, arith, ⊎_elim, append_assoc, append-nil, add-zero, zero-add, length-append, ◌≤◌, length-take-le}
+use Rattle.std.proofs.lemmas.List.{take-append-drop, take-append-le, map-append}
+use Rattle.ax_lex.proofs.Turns.{take_add}
 use Rattle.std.specs.List.{list_all}
 use Rattle.std.proofs.lemmas.Bool.{cases_Bool, and_right, or_cases, eqb-true}
 use Rattle.std.proofs.lemmas.Option.{none-some}
@@ -8,10 +10,11 @@ use Rattle.ax_prog.specs.declared.tokens.Mark.TheVariants as m
 use Rattle.ax_prog.specs.declared.tokens.Kind.{Kind}
 use Rattle.ax_prog.specs.declared.tokens.Kind.TheVariants as k
 use Rattle.ax_prog.specs.declared.tokens.Token.{Token}
+use Rattle.ax_prog.specs.declared.Span.{Span}
 use Rattle.ax_lex.specs.Bytes.{Text, is_word, is_space, same, last_of, AtHead}
 use Rattle.ax_lex.specs.Tokens.{marks, is_hex, mark_of, format_of, continues, kind_of}
 use Rattle.ax_lex.specs.Pieces.{Piece, space, line, block, include, token, text_of, fresh_after, fresh_end, IsPiece, texts, ArePieces, token_of, tokens_of, SpellsTokens}
-use Rattle.ax_lex.specs.Splices.{kinds_of, last_to, is_end, SpellsInside}
+use Rattle.ax_lex.specs.Splices.{kinds_of, last_to, is_end, SpellsInside, in_parens, kinds_in_parens, spliced_from, spliced, Replaces}
 use Rattle.ax_lex.proofs.Lookups.{lookup_none}
 use Rattle.ax_lex.proofs.Sequences.{texts-append, fresh_end-append, ArePieces-append, ArePieces-parts, tokens_of-append, kinds, kinds-append, kinds_of-tokens_of}
 use Rattle.ax_lex.proofs.Unique.{sort_of, kind_sort}
@@ -304,6 +307,11 @@ pub record SpellsOn (bytes : Text) (before : List Token) (middle after : List Ki
   pub mid_kinds : kinds_of mid ≡ middle
   pub rest_kinds : kinds_of rest ≡ after
 
+pub record SpellsThen (bytes : Text) (before : List Token) (after : List Kind) : Type 0 where
+  pub others : List Token
+  pub spelled : SpellsTokens bytes (before ++ others)
+  pub others_kinds : kinds_of others ≡ after
+
 -- Where a stretch of tokens is replaced by a text in parentheses, the tokens before it stay as they are, and those behind
 -- it stay but for their places.
 pub splice_spells : (bytes inner : Text) (before : List Token) (t : Token) (ts after : List Token) (ks : List Kind) → SpellsTokens bytes (before ++ ((t ∷ ts) ++ after)) → SpellsInside inner ks → SpellsOn (take t.span.from bytes ++ 40 ∷ (inner ++ 41 ∷ drop (last_to t.span.to ts) bytes)) before (k.Mark m.OpenRound ∷ (ks ++ k.Mark m.CloseRound ∷ [])) (kinds_of after)
@@ -338,6 +346,49 @@ splice_spells bytes inner before t ts after ks s inside =
       mid_kinds = kinds_of-tokens_of place new ∙ ap (λ (js : List Kind). k.Mark m.OpenRound ∷ js) (kinds-append inside.pieces (token (41 ∷ []) (k.Mark m.CloseRound) ∷ []) ∙ ap (λ (js : List Kind). js ++ k.Mark m.CloseRound ∷ []) (sym (kinds_of-tokens_of 0 inside.pieces) ∙ sym inside.found));
       rest_kinds = kinds_of-tokens_of (place + length (texts new)) f.back ∙ f.after_is;
     }
+
+-- the same for several stretches, of which the next is the first
+pub splices_spell : {at : ℕ} {tokens : List Token} {parts : List (Span × Text)} {kinds : List Kind} → Replaces at tokens parts kinds → (bytes : Text) (before : List Token) → SpellsTokens bytes (before ++ tokens) → at ≤ length bytes → SpellsThen (take at bytes ++ spliced_from at bytes parts) before kinds
+splices_spell (Replaces.none {at = at} tokens) bytes before s le = record {
+  others = tokens;
+  spelled = subst (λ (v : Text). SpellsTokens v (before ++ tokens)) (sym (take-append-drop at bytes)) s;
+  others_kinds = refl;
+}
+splices_spell (Replaces.next {at = at} {parts = parts} {kinds = ks} {later = later} gap t ts more text rises inside rest) bytes before s le =
+    let from = t.span.from in
+    let to = last_to t.span.to ts in
+    let tail = spliced_from to bytes parts in
+    let f = found_at bytes (before ++ gap) t ts more (subst (λ (us : List Token). SpellsTokens bytes us) (sym (append_assoc before gap ((t ∷ ts) ++ more))) s) in
+    let size : length bytes ≡ to + length (texts f.back) = ap length f.joined ∙ omega_size (texts f.front) (texts (f.mid ++ token f.word f.last ∷ [])) (texts f.back) to f.to_is in
+    let order : from ≤ to = omega (arith, f.from_is, f.to_is) in
+    let shape : (before ++ (gap ++ (t ∷ ts))) ++ more ≡ before ++ (gap ++ ((t ∷ ts) ++ more)) = append_assoc before (gap ++ (t ∷ ts)) more ∙ ap (λ (us : List Token). before ++ us) (append_assoc gap (t ∷ ts) more) in
+    -- the later stretches first
+    let r = splices_spell rest bytes (before ++ (gap ++ (t ∷ ts))) (subst (λ (us : List Token). SpellsTokens bytes us) (sym shape) s) (omega (arith, size)) in
+    let shape2 : (before ++ (gap ++ (t ∷ ts))) ++ r.others ≡ (before ++ gap) ++ ((t ∷ ts) ++ r.others) = append_assoc before (gap ++ (t ∷ ts)) r.others ∙ ap (λ (us : List Token). before ++ us) (append_assoc gap (t ∷ ts) r.others) ∙ sym (append_assoc before gap ((t ∷ ts) ++ r.others)) in
+    let one = splice_spells (take to bytes ++ tail) text (before ++ gap) t ts r.others ks (subst (λ (us : List Token). SpellsTokens (take to bytes ++ tail) us) shape2 r.spelled) inside in
+    -- the same bytes
+    let count : length (take to bytes) ≡ to = length-take-le to bytes (omega (arith, size)) in
+    let cut_front : take from (take to bytes ++ tail) ≡ take from bytes = take_in from to bytes tail order (omega (arith, size)) in
+    let cut_back : drop to (take to bytes ++ tail) ≡ tail = (λ i. drop (sym count i) (take to bytes ++ tail)) ∙ drop_front (take to bytes) tail in
+    let gap_text : take at bytes ++ take (from - at) (drop at bytes) ≡ take from bytes = sym (take_add at (from - at) bytes) ∙ ap (λ (n : ℕ). take n bytes) (let e : at + (from - at) ≡ from = omega arith in e) in
+    let close : 40 ∷ (text ++ 41 ∷ tail) ≡ in_parens text ++ tail = ap (λ (v : Text). 40 ∷ v) (sym (append_assoc text (41 ∷ []) tail)) in
+    let whole : take from (take to bytes ++ tail) ++ 40 ∷ (text ++ 41 ∷ drop to (take to bytes ++ tail)) ≡ take at bytes ++ (take (from - at) (drop at bytes) ++ (in_parens text ++ tail)) = (λ i. cut_front i ++ 40 ∷ (text ++ 41 ∷ cut_back i)) ∙ (λ i. (sym gap_text) i ++ close i) ∙ append_assoc (take at bytes) (take (from - at) (drop at bytes)) (in_parens text ++ tail) in
+    record {
+      others = gap ++ (one.mid ++ one.rest);
+      spelled = subst (λ (v : Text). SpellsTokens v (before ++ (gap ++ (one.mid ++ one.rest)))) whole (subst (λ (us : List Token). SpellsTokens (take from (take to bytes ++ tail) ++ 40 ∷ (text ++ 41 ∷ drop to (take to bytes ++ tail))) us) (append_assoc before gap (one.mid ++ one.rest)) one.spelled);
+      others_kinds = map-append (λ (u : Token). u.kind) gap (one.mid ++ one.rest) ∙ ap (λ (js : List Kind). kinds_of gap ++ js) (map-append (λ (u : Token). u.kind) one.mid one.rest ∙ (λ i. one.mid_kinds i ++ (one.rest_kinds ∙ r.others_kinds) i));
+    }
+  where
+    omega_size : (u v w : Text) (to : ℕ) → to ≡ length u + length v → length (u ++ (v ++ w)) ≡ to + length w
+    omega_size u v w to h = omega (arith, length-append u (v ++ w), length-append v w)
+    take_in : (from to : ℕ) (bytes tail : Text) → from ≤ to → to ≤ length bytes → take from (take to bytes ++ tail) ≡ take from bytes
+    take_in from to bytes tail a b = take-append-le from (take to bytes) tail (omega (arith, length-take-le to bytes b)) ∙ sym (take-append-le from (take to bytes) (drop to bytes) (omega (arith, length-take-le to bytes b))) ∙ ap (λ (v : Text). take from v) (take-append-drop to bytes)
+
+-- the spliced bytes spell the tokens with these stretches replaced
+pub spliced_spells : (bytes : Text) (tokens : List Token) (parts : List (Span × Text)) (kinds : List Kind) → SpellsTokens bytes tokens → Replaces 0 tokens parts kinds → (others : List Token) × SpellsTokens (spliced bytes parts) others × (kinds_of others ≡ kinds)
+spliced_spells bytes tokens parts kinds s r =
+    let all = splices_spell r bytes [] s (omega arith) in
+    (all.others, all.spelled, all.others_kinds)
 
 -- ---- texts that spell the same tokens wherever they stand
 

@@ -15,7 +15,7 @@ use Rattle.ax_lex.specs.Faults.{Stuck, Faulty}
 use Rattle.ax_lex.proofs.Firsts.{too_many}
 use Rattle.ax_lex.proofs.Sequences.{texts-append, fresh_end-append, ArePieces-append, tokens_of-append}
 
-take_add : (a n : ℕ) (xs : Text) → take (a + n) xs ≡ take a xs ++ take n (drop a xs)
+pub take_add : (a n : ℕ) (xs : Text) → take (a + n) xs ≡ take a xs ++ take n (drop a xs)
 take_add zero n xs = rw zero-add refl
 take_add (suc a) n [] = rw suc-add (take_nil n)
   where
