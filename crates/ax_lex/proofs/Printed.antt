@@ -1,17 +1,16 @@
 -- Numbers as they are printed.
-use Rattle.std.proofs.Common.{◌≡◌, ◌≤◌, ◌<◌, ◌^◌, ◌*◌, ◌/◌, ◌%◌, ℕ, suc, ◌+◌, Bool, true, false, ◌&&◌, ◌||◌, eqb, ltb, leb, List, [], ◌∷◌, ◌++◌, length, get_or, Option, Some, None, pos, refl, sym, ap, ◌∙◌, subst, arith, ⊎_elim, zero-add, cond, option_map}
+use Rattle.std.proofs.Common.{◌≡◌, ◌≤◌, ◌<◌, ◌^◌, ◌*◌, ◌%◌, ℕ, ◌+◌, Bool, true, false, eqb, ltb, [], ◌∷◌, ◌++◌, get_or, Option, Some, pos, refl, sym, ap, ◌∙◌, subst, arith, ⊎_elim, zero-add, cond, option_map}
 use Rattle.std.specs.List.{list_all}
 use Rattle.std.specs.Char.{is_ascii_digit}
 use Rattle.std.specs.Fmt.{decimal}
 use Rattle.std.proofs.lemmas.Bool.{cases_eq, and_parts, and_from, le-leb, ne_eqb}
 use Rattle.std.proofs.lemmas.Bool.Decides.{nat_tests}
 use Rattle.std.proofs.lemmas.Fmt.{decimal_digit, decimal_by_steps, first_decimal}
-use Rattle.ax_prog.specs.declared.tokens.Kind.{Kind}
 use Rattle.ax_prog.specs.declared.tokens.Kind.TheVariants as k
 use Rattle.ax_lex.specs.Bytes.{Text, digit}
 use Rattle.ax_lex.specs.Tokens.{is_hex, value, numeral, number_of, small, kind_of}
 use Rattle.ax_lex.specs.Splices.{SpellsInside}
-use Rattle.ax_lex.proofs.Splice.{token_inside}
+use Rattle.ax_lex.proofs.Inside.{token_inside}
 
 digit_is : (r : ℕ) → r < 10 → (is_ascii_digit (48 + r) ≡ true) × (digit (48 + r) ≡ r)
 digit_is r lt =
@@ -61,6 +60,7 @@ plain_kind (d ∷ ds) n r lt le =
   where
     ten : (c : ℕ) → is_ascii_digit c ≡ true → ltb (digit c) 10 ≡ true
     ten c h = grind (arith, nat_tests)
+
     below_ten : (ds : Text) → list_all is_ascii_digit ds ≡ true → list_all (λ c. ltb (digit c) 10) ds ≡ true
     below_ten [] h = refl
     below_ten (c ∷ ds) h = let p = and_parts (is_ascii_digit c) (list_all is_ascii_digit ds) h in and_from (ltb (digit c) 10) (list_all (λ c. ltb (digit c) 10) ds) (ten c p.0) (below_ten ds p.1)

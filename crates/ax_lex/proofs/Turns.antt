@@ -1,5 +1,5 @@
 -- A turn of the lexer's loop.
-use Rattle.std.proofs.Common.{◌≡◌, ◌≤◌, ◌<◌, ℕ, zero, suc, ◌+◌, Bool, true, List, [], ◌∷◌, ◌++◌, length, take, drop, refl, sym, ap, ◌∙◌, subst, arith, append_assoc, append-nil, zero-add, length-append, length-take-le, false, length-drop, add-zero}
+use Rattle.std.proofs.Common.{◌≡◌, ◌≤◌, ◌<◌, ℕ, zero, suc, ◌+◌, Bool, true, List, [], ◌∷◌, ◌++◌, length, take, drop, refl, sym, ap, ◌∙◌, subst, arith, append-nil, zero-add, length-append, length-take-le, false, length-drop}
 use Rattle.std.proofs.Math.Nat.{suc-add}
 use Rattle.std.proofs.lemmas.List.{take-append-drop, drop-drop, take_all, drop_all}
 use Rattle.ax_prog.specs.declared.tokens.Token.{Token}

@@ -10,7 +10,7 @@ use Rattle.ax_prog.specs.declared.tokens.Mark.{Mark}
 use Rattle.ax_prog.specs.declared.tokens.Kind.{Kind}
 use Rattle.ax_prog.specs.declared.tokens.Kind.TheVariants as k
 use Rattle.ax_lex.specs.Bytes.{Text, is_word, is_letter, is_space, is_blank, digit, same, last_of, AtHead}
-use Rattle.ax_lex.specs.Tokens.{formats, marks, is_hex, numeral, number_of, small, lookup, mark_of, format_of, continues, other_kind, kind_of}
+use Rattle.ax_lex.specs.Tokens.{formats, marks, is_hex, numeral, number_of, small, mark_of, format_of, continues, other_kind, kind_of}
 use Rattle.ax_lex.specs.Pieces.{Piece, space, line, block, include, token, text_of, has_end, fresh_after, IsPiece, texts, ArePieces, tokens_of, SpellsTokens}
 use Rattle.ax_prog.specs.declared.tokens.Token.{Token}
 use Rattle.ax_lex.proofs.Lookups.{lookup_none, lookup_some}
