@@ -1,45 +1,58 @@
-//! Arithmetic of `int`: each operator answers `None` exactly where C leaves it undefined.
+//! Arithmetic of C's `int`, of 32 bits in two's complement: each operator answers `None` exactly where
+//! C11 6.5p5 and 6.5.3 to 6.5.7 leave its result undefined.
+//!
+//! The relational, equality and logical operators (6.5.8, 6.5.9, 6.5.13 to 6.5.15) and the bitwise ones
+//! (6.5.10 to 6.5.12) are defined everywhere and are Rust's own.
 #![tactic(auto)]
 
 ghost use Rattle.std.specs.Prelude.{◌≡◌};
 ghost use Rattle.ax_base.specs.Arithmetic.{plus_of, minus_of, times_of, negative_of, quotient_of, remainder_of, shift_left_of, shift_right_of, complement_of};
 
+/// `a + b` (C11 6.5.6). `None` where the sum is no `int` (6.5p5).
 pub fn add(a: i32, b: i32) -> Option<i32>
     ensures { result ≡ plus_of a b }
 {
     a.checked_add(b)
 }
 
+/// `a - b` (C11 6.5.6). `None` where the difference is no `int` (6.5p5).
 pub fn sub(a: i32, b: i32) -> Option<i32>
     ensures { result ≡ minus_of a b }
 {
     a.checked_sub(b)
 }
 
+/// `a * b` (C11 6.5.5). `None` where the product is no `int` (6.5p5).
 pub fn mul(a: i32, b: i32) -> Option<i32>
     ensures { result ≡ times_of a b }
 {
     a.checked_mul(b)
 }
 
+/// `-a` (C11 6.5.3.3). `None` for the least `int` alone (6.5p5).
 pub fn neg(a: i32) -> Option<i32>
     ensures { result ≡ negative_of a }
 {
     a.checked_neg()
 }
 
+/// `a / b`, rounded toward zero (C11 6.5.5p5, p6). `None` where `b` is 0, and where the quotient is no `int`,
+/// which is the least `int` divided by -1.
 pub fn div(a: i32, b: i32) -> Option<i32>
     ensures { result ≡ quotient_of a b }
 {
     a.checked_div(b)
 }
 
+/// `a % b`, with the sign of `a` (C11 6.5.5p5, p6). `None` exactly where `a / b` is undefined.
 pub fn rem(a: i32, b: i32) -> Option<i32>
     ensures { result ≡ remainder_of a b }
 {
     a.checked_rem(b)
 }
 
+/// `a << b` (C11 6.5.7p3, p4). `None` where `b` is negative or at least 32, where `a` is negative, and where
+/// `a * 2^b` is no `int`.
 pub fn shl(a: i32, b: i32) -> Option<i32>
     ensures { result ≡ shift_left_of a b }
 {
@@ -55,6 +68,8 @@ pub fn shl(a: i32, b: i32) -> Option<i32>
     }
 }
 
+/// `a >> b` (C11 6.5.7p3, p5). `None` where `b` is negative or at least 32. Of a negative `a`, where C11 leaves
+/// the choice to the implementation, this is the arithmetic shift.
 pub fn shr(a: i32, b: i32) -> Option<i32>
     ensures { result ≡ shift_right_of a b }
 {
@@ -64,8 +79,55 @@ pub fn shr(a: i32, b: i32) -> Option<i32>
     Some(a >> b)
 }
 
+/// `~a` (C11 6.5.3.3), which is `-a - 1` in two's complement and always defined.
 pub fn bit_not(a: i32) -> i32
     ensures { result ≡ complement_of a }
 {
     !a
+}
+
+#[cfg(test)]
+mod tests {
+    use super::*;
+
+    const LEAST: i32 = -2147483648;
+
+    const GREATEST: i32 = 2147483647;
+
+    #[test]
+    fn answers_as_c_does(rt: HostRuntime) {
+        let rows = [
+            ("greatest + 1", add(GREATEST, 1), None),
+            ("greatest + least", add(GREATEST, LEAST), Some(-1)),
+            ("least - 1", sub(LEAST, 1), None),
+            ("0 - least", sub(0, LEAST), None),
+            ("65536 * 32768", mul(65536, 32768), None),
+            ("65536 * -32768", mul(65536, -32768), Some(LEAST)),
+            ("-least", neg(LEAST), None),
+            ("-greatest", neg(GREATEST), Some(-2147483647)),
+            ("1 / 0", div(1, 0), None),
+            ("least / -1", div(LEAST, -1), None),
+            ("-7 / 2", div(-7, 2), Some(-3)),
+            ("7 / -2", div(7, -2), Some(-3)),
+            ("1 % 0", rem(1, 0), None),
+            ("least % -1", rem(LEAST, -1), None),
+            ("-7 % 2", rem(-7, 2), Some(-1)),
+            ("7 % -2", rem(7, -2), Some(1)),
+            ("1 << 30", shl(1, 30), Some(1073741824)),
+            ("1 << 31", shl(1, 31), None),
+            ("0 << 31", shl(0, 31), Some(0)),
+            ("0 << 32", shl(0, 32), None),
+            ("1 << -1", shl(1, -1), None),
+            ("-1 << 0", shl(-1, 0), None),
+            ("-5 >> 1", shr(-5, 1), Some(-3)),
+            ("greatest >> 31", shr(GREATEST, 31), Some(0)),
+            ("1 >> 32", shr(1, 32), None),
+            ("1 >> -1", shr(1, -1), None),
+        ];
+        for (text, found, wanted) in rows {
+            assert_eq!(rt; found, wanted, "{text}");
+        }
+        assert_eq!(rt; bit_not(0), -1);
+        assert_eq!(rt; bit_not(LEAST), GREATEST);
+    }
 }

@@ -1,0 +1,5 @@
+pub mod Nodes
+pub mod Candidates
+pub mod Substitution
+pub mod Same
+pub mod Equality

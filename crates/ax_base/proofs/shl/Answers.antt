@@ -1,9 +1,9 @@
-use Rattle.std.proofs.Common.{◌≡◌, ℕ, suc, ◌*◌, ◌+◌, ◌/◌, ◌^◌, ◌<◌, ◌≤◌, Bool, false, nat_lt, arith, refl, ℤ, pos, negsuc, nat_abs, FitsSigned, Option, None, rules, w32}
+use Rattle.std.proofs.Common.{◌≡◌, ℕ, ◌*◌, ◌+◌, ◌/◌, ◌^◌, ◌<◌, ◌≤◌, false, arith, refl, ℤ, pos, negsuc, nat_abs, FitsSigned, Option, None, w32}
 use Rattle.std.proofs.lemmas.Int.{to_z-of_z}
 use Rattle.std.proofs.lemmas.Grind.{common_steps}
 use Rattle.std.proofs.Math.Nat.{lt-mul-div-succ, mul-le-mul_left}
 use Rattle.std.proofs.Math.Pow.{pow_pos}
-use lib.Signed.{lt_z, le_z}
+use lib.Signed.{lt_z}
 use Rattle.ax_base.specs.Arithmetic.{shift_left_of}
 use Rattle.ax_base.proofs.shl.Goals as goal
 
@@ -22,7 +22,7 @@ none_past (pos a) (negsuc n) p q h = refl
 none_past (negsuc a) b p q h = refl
 
 pub returns-else-word-count : goal.returns-else-word-count
-returns-else-word-count c = 
+returns-else-word-count c =
     let fa : FitsSigned w32 c.args.a = c.ranges.a in
     let fb : FitsSigned w32 c.args.b = c.ranges.b in
     let p = simp to_z-of_z at c.if-a-lt0.false in

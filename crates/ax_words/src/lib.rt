@@ -1,0 +1,14 @@
+//! The words of a command line: which order they give, or why they give none.
+#![tactic(auto)]
+
+mod commands;
+mod lists;
+mod numbers;
+mod order;
+mod read;
+mod repair;
+#[cfg(test)]
+mod tests;
+
+pub use order::{Choice, Order, RepairOrder, WordFault};
+pub use read::read_words;
