@@ -1,0 +1,5 @@
+pub mod Trees
+pub mod Statements
+pub mod Fuel
+pub mod Programs
+pub mod WorkedRuns

@@ -1,0 +1,9 @@
+pub mod Answer
+pub mod Operators
+pub mod Types
+pub mod Store
+pub mod Values
+pub mod Acts
+pub mod Execution
+pub mod Runs
+pub mod OpenRuns
