@@ -40,6 +40,7 @@ pub fn read_all<S: Shelf>(
 ) -> Result<Vec<u8>, ReadFault>
     requires { limit ≤ 268435456 }
     ensures bytes { IfOk result (λ v. OnKept ((S.seen shelf.old).kept name.now) (λ file. IsWhole file v.items limit)) }
+    ensures short { IfOk result (λ v. length v.items ≤ limit) }
     ensures too_long { IsErrOf result ReadFault.TooLong → OnKept ((S.seen shelf.old).kept name.now) (λ file. limit < length file) }
     ensures failed { IsErrOf result ReadFault.Failed → Rose ((S.seen shelf.old).reads name.now) ((S.seen shelf.new).reads name.now) }
     ensures same { Same (S.seen shelf.old) (S.seen shelf.new) }
