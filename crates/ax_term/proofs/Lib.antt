@@ -1,0 +1,5 @@
+pub mod KeyLemmas
+pub mod BankLemmas
+pub mod ValueLemmas
+pub mod FoldLemmas
+pub mod ValuationLemmas
