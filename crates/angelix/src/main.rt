@@ -1,0 +1,45 @@
+//! The program: the trusted edge around the top call, over the files and the output of the system.
+#![tactic(auto)]
+
+use ax_outside::HostShelf;
+use ax_top::angelix;
+use std::alloc::Global;
+use std::io;
+use std::process::ExitCode;
+
+/// The status where the system's words can't be had or aren't UTF-8.
+const NO_WORDS: u8 = 14;
+/// The status where memory for the words can't be had.
+const NO_MEMORY: u8 = 10;
+
+// The words after the program's name, or the status that stands for their want.
+fn words(rt: &HostRuntime, alloc: Global) -> Result<Vec<String>, u8> {
+    let args = match std::env::args(rt) {
+        Ok(args) => args,
+        Err(error) => {
+            return Err(if error.kind() == io::ErrorKind::OutOfMemory {
+                NO_MEMORY
+            } else {
+                NO_WORDS
+            });
+        }
+    };
+    let mut words = Vec::new(alloc);
+    for word in args.skip(1) {
+        if words.push(word).is_err() {
+            return Err(NO_MEMORY);
+        }
+    }
+    Ok(words)
+}
+
+fn main(rt: HostRuntime) -> ExitCode {
+    let alloc = rt.alloc();
+    match words(&rt, alloc) {
+        Ok(words) => {
+            let mut shelf = HostShelf::new(rt);
+            ExitCode::from(angelix(alloc, words, &mut shelf, Vec::new(alloc)))
+        }
+        Err(status) => ExitCode::from(status),
+    }
+}
