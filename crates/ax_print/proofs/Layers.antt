@@ -1,6 +1,7 @@
 -- The text of an operand, by the kind of its tree.
 use Rattle.std.proofs.Common.{◌≡◌, refl, ℤ, ℕ, List, ◌++◌, Bool, true, false}
-use Rattle.std.specs.Prelude.{codes, signed_decimal}
+use Rattle.std.specs.Prelude.{codes}
+use Rattle.std.specs.Fmt.{signed_decimal}
 use Rattle.ax_prog.specs.declared.Un.{Un}
 use Rattle.ax_prog.specs.declared.Bin.{Bin}
 use Rattle.ax_prog.specs.declared.Atom.{Atom}

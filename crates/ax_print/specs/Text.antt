@@ -1,5 +1,6 @@
 -- The text that stands for a tree where it replaces a slot's expression.
-use Rattle.std.specs.Prelude.{ℕ, ◌-◌, Bool, true, false, if◌then◌else◌, List, [], ◌∷◌, ◌++◌, take, drop, codes, signed_decimal, Option, Some, None, slice_get}
+use Rattle.std.specs.Prelude.{ℕ, ◌-◌, Bool, true, false, if◌then◌else◌, List, [], ◌∷◌, ◌++◌, take, drop, codes, Option, Some, None, slice_get}
+use Rattle.std.specs.Fmt.{signed_decimal}
 use Rattle.ax_prog.specs.declared.Un.{Un}
 use Rattle.ax_prog.specs.declared.Un.TheVariants as un
 use Rattle.ax_prog.specs.declared.Bin.{Bin}

@@ -1,9 +1,10 @@
 //! What atoms and operators are written as.
-ghost use Rattle.std.specs.Prelude.{◌≡◌, take, drop, Option, Some, None};
-ghost use Rattle.ax_print.specs.Text.{un_text, bin_text, first_span, bytes_at, name_of, atom_text};
+ghost use Rattle.std.specs.Prelude.{◌≡◌};
+ghost use Rattle.ax_print.specs.Text.{un_text, bin_text, first_span, bytes_at, name_of, atom_text, atoms_in};
+ghost use Rattle.ax_prog.specs.Candidates.{slot_at};
 
 use ax_prog::same::same_atom;
-use ax_prog::{Atom, Bin, Lval, Program, Span, Un, VarId};
+use ax_prog::{Atom, Bin, Lval, Program, SlotId, Span, Un, VarId};
 
 /// Where a text is to stand: the source, its program, and the atoms of the slot.
 #[derive(Drop)]
@@ -48,6 +49,17 @@ pub fn bin_sign(op: Bin) -> &'static str
     }
 }
 
+/// The atoms of the slot of that number.
+pub fn slot_atoms(program: &Program, slot: SlotId) -> &[(Atom, Span)]
+    ensures { result.now ≡ atoms_in (slot_at program.now slot) }
+{
+    match program.slots.get(slot.0 as usize) {
+        None => &[],
+        Some(slot) => slot.atoms.as_slice(),
+    }
+}
+
+/// What an atom is written as: a variable's name, or the bytes of the atom in the source.
 pub fn atom_bytes<'a>(site: &Site<'a>, atom: &Atom) -> &'a [u8]
     ensures { result.now ≡ atom_text site.now.source.now site.now.program.now site.now.atoms.now atom.now }
 {

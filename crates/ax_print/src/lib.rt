@@ -2,7 +2,7 @@
 //! replaced.
 #![tactic(auto)]
 
-ghost use Rattle.std.specs.Prelude.{◌≡◌, ◌<◌, length, IfOk};
+ghost use Rattle.std.specs.Prelude.{◌≡◌, length, IfOk};
 ghost use Rattle.ax_print.specs.Text.{text_of};
 ghost use Rattle.ax_print.specs.Spliced.{spliced, AreParts};
 
@@ -10,16 +10,17 @@ mod leaves;
 mod writing;
 
 use ax_prog::{Expr, Program, SlotId, Span};
-use leaves::Site;
+use leaves::{Site, slot_atoms};
 use sqlite_items::Items;
 use std::alloc::{AllocError, Global};
-use writing::{append, is_leaf_tree, write_operand};
+use writing::{append, write_whole};
 
 /// The text that replaces the expression of that slot by this tree, as bytes of the source.
 ///
-/// A number stands in decimal, a variable by its name, and any other atom by the bytes that it has in `source`. The
-/// whole stands in parentheses, and so does each operand that isn't a number or the value of a place. The text reads
-/// back as the tree where the tree fits the slot, `program` is that of `source`, and the slot isn't within another.
+/// A number stands in decimal, a variable by its name, and any other atom by the bytes that the first of the slot's
+/// atoms that equals it has in `source`, or by none where none does. A unary operator stands directly before its
+/// operand, a binary one between single spaces, and `?:` as `a ? b : c`. The whole stands in parentheses, and so does
+/// each operand that isn't a number or the value of a place.
 pub fn expr_text(
     alloc: Global,
     source: &[u8],
@@ -27,23 +28,16 @@ pub fn expr_text(
     slot: SlotId,
     tree: &Expr,
 ) -> Result<Items<u8>, AllocError>
-    requires { slot.0 < length program.now.slots }
     ensures { IfOk result (λ text. text ≡ text_of source.now program.now slot tree.now) }
 {
-    let atoms = program.slots.as_slice()[slot.0 as usize].atoms.as_slice();
+    let atoms = slot_atoms(program, slot);
     let site = Site {
         source,
         program,
         atoms,
     };
     let mut out = Vec::new(alloc);
-    if is_leaf_tree(tree) {
-        append(&mut out, b"(")?;
-        write_operand(tree, &site, &mut out)?;
-        append(&mut out, b")")?;
-    } else {
-        write_operand(tree, &site, &mut out)?;
-    }
+    write_whole(tree, &site, &mut out)?;
     Ok(Items::from_vec(out))
 }
 
@@ -67,4 +61,103 @@ pub fn splice(
     }
     append(&mut out, &source[at..])?;
     Ok(Items::from_vec(out))
+}
+
+#[cfg(test)]
+mod tests {
+    use super::*;
+    use ax_prog::{Atom, Bin, Fun, FunId, Lval, Pexpr, Slot, Ty, Un, Var, VarId};
+    use sqlite_items::Boxed;
+
+    const SOURCE: &str = "int x; int *p; int main() { return x + (p == 0); }";
+
+    fn boxed(alloc: Global, tree: Expr) -> Result<Boxed<Expr>, AllocError> {
+        Boxed::new(alloc, tree)
+    }
+
+    fn binary(alloc: Global, op: Bin, a: Expr, b: Expr) -> Result<Expr, AllocError> {
+        Ok(Expr::Bin(op, boxed(alloc, a)?, boxed(alloc, b)?))
+    }
+
+    fn x(alloc: Global) -> Result<Expr, AllocError> {
+        Ok(Expr::Atom(Boxed::new(alloc, Atom::Read(Lval::Var(VarId(0))))?))
+    }
+
+    fn p_is_null(alloc: Global) -> Result<Atom, AllocError> {
+        Ok(Atom::Same(
+            Pexpr::Read(Boxed::new(alloc, Lval::Var(VarId(1)))?),
+            Pexpr::Null,
+        ))
+    }
+
+    /// The program of `SOURCE`, but for its statements.
+    fn sample(alloc: Global) -> Result<Program, AllocError> {
+        let mut vars = Items::new(alloc);
+        vars.push(Var {
+            name: Items::from_slice(alloc, b"x")?,
+            ty: Ty::Int,
+        })?;
+        let mut atoms = Items::new(alloc);
+        atoms.push((p_is_null(alloc)?, Span { from: 40, to: 46 }))?;
+        let mut slots = Items::new(alloc);
+        let span = Span { from: 35, to: 47 };
+        slots.push(Slot {
+            span,
+            expr: Expr::Num(0),
+            scope: Items::new(alloc),
+            atoms,
+        })?;
+        let funs: Items<Fun> = Items::new(alloc);
+        Ok(Program {
+            structs: Items::new(alloc),
+            vars,
+            globals: Items::new(alloc),
+            funs,
+            main: FunId(0),
+            slots,
+        })
+    }
+
+    #[test]
+    fn trees_are_written(rt: HostRuntime) -> Result<(), AllocError> {
+        let alloc = rt.alloc();
+        let program = sample(alloc)?;
+        let null = Expr::Atom(Boxed::new(alloc, p_is_null(alloc)?)?);
+        let sum = binary(alloc, Bin::Add, x(alloc)?, null)?;
+        let negative = Expr::Un(Un::Neg, boxed(alloc, x(alloc)?)?);
+        let test = binary(alloc, Bin::Le, x(alloc)?, Expr::Num(18))?;
+        let choice = Expr::Cond(
+            boxed(alloc, test)?,
+            boxed(alloc, negative)?,
+            boxed(alloc, sum)?,
+        );
+        let rows = [
+            (x(alloc)?, "(x)"),
+            (Expr::Num(2147483647), "(2147483647)"),
+            (
+                Expr::Un(
+                    Un::Not,
+                    boxed(alloc, binary(alloc, Bin::Shl, x(alloc)?, Expr::Num(1))?)?,
+                ),
+                "(!(x << 1))",
+            ),
+            (choice, "((x <= 18) ? (-x) : (x + (p == 0)))"),
+        ];
+        for (tree, wanted) in &rows {
+            let text = expr_text(alloc, SOURCE.as_bytes(), &program, SlotId(0), tree)?;
+            assert!(rt; text.as_slice() == wanted.as_bytes(), "{wanted}");
+        }
+        Ok(())
+    }
+
+    #[test]
+    fn parts_are_replaced(rt: HostRuntime) -> Result<(), AllocError> {
+        let alloc = rt.alloc();
+        let first = (Span { from: 4, to: 5 }, Items::from_slice(alloc, b"size")?);
+        let second = (Span { from: 5, to: 5 }, Items::from_slice(alloc, b"[2]")?);
+        let text = splice(alloc, b"int x;", &[first, second])?;
+        assert!(rt; text.as_slice() == b"int size[2];".as_slice());
+        assert!(rt; splice(alloc, b"int x;", &[])?.as_slice() == b"int x;".as_slice());
+        Ok(())
+    }
 }

@@ -1,6 +1,7 @@
 //! Writing trees at the end of a text.
-ghost use Rattle.std.specs.Prelude.{◌≡◌, ◌++◌, OnOk, signed_decimal};
-ghost use Rattle.ax_print.specs.Text.{is_read, is_leaf, operand_text, atom_operand, atom_text};
+ghost use Rattle.std.specs.Prelude.{◌≡◌, ◌++◌, OnOk};
+ghost use Rattle.std.specs.Fmt.{signed_decimal};
+ghost use Rattle.ax_print.specs.Text.{in_parens, is_read, is_leaf, tree_text, operand_text, atom_operand, atom_text};
 
 use crate::leaves::{Site, atom_bytes, bin_sign, un_sign};
 use ax_prog::{Atom, Expr};
@@ -25,7 +26,7 @@ fn is_read_atom(atom: &Atom) -> bool
 
 /// Whether the tree is a number or the value of a place.
 #[tactic(auto, using(crate::proofs::Layers::layers))]
-pub fn is_leaf_tree(tree: &Expr) -> bool
+fn is_leaf_tree(tree: &Expr) -> bool
     ensures { result ≡ is_leaf tree.now }
 {
     match tree {
@@ -58,7 +59,7 @@ fn write_atom(atom: &Atom, site: &Site, out: &mut Vec<u8>) -> Result<(), AllocEr
 
 /// Appends the tree's text as an operand's.
 #[tactic(auto, using(crate::proofs::Layers::layers))]
-pub fn write_operand(tree: &Expr, site: &Site, out: &mut Vec<u8>) -> Result<(), AllocError>
+fn write_operand(tree: &Expr, site: &Site, out: &mut Vec<u8>) -> Result<(), AllocError>
     ensures { OnOk result (out.new.items ≡ out.old.items ++ operand_text (atom_text site.now.source.now site.now.program.now site.now.atoms.now) tree.now) }
 {
     match tree {
@@ -68,7 +69,8 @@ pub fn write_operand(tree: &Expr, site: &Site, out: &mut Vec<u8>) -> Result<(), 
             append(out, b"(")?;
             append(out, un_sign(*op).as_bytes())?;
             write_operand(a.get(), site, out)?;
-            append(out, b")")
+            append(out, b")")?;
+            Ok(())
         }
         Expr::Bin(op, a, b) => {
             append(out, b"(")?;
@@ -77,7 +79,8 @@ pub fn write_operand(tree: &Expr, site: &Site, out: &mut Vec<u8>) -> Result<(), 
             append(out, bin_sign(*op).as_bytes())?;
             append(out, b" ")?;
             write_operand(b.get(), site, out)?;
-            append(out, b")")
+            append(out, b")")?;
+            Ok(())
         }
         Expr::Cond(f, a, b) => {
             append(out, b"(")?;
@@ -86,7 +89,23 @@ pub fn write_operand(tree: &Expr, site: &Site, out: &mut Vec<u8>) -> Result<(), 
             write_operand(a.get(), site, out)?;
             append(out, b" : ")?;
             write_operand(b.get(), site, out)?;
-            append(out, b")")
+            append(out, b")")?;
+            Ok(())
         }
+    }
+}
+
+/// Appends the tree's text in parentheses.
+pub fn write_whole(tree: &Expr, site: &Site, out: &mut Vec<u8>) -> Result<(), AllocError>
+    ensures { OnOk result (out.new.items ≡ out.old.items ++ in_parens (tree_text (atom_text site.now.source.now site.now.program.now site.now.atoms.now) tree.now)) }
+{
+    if is_leaf_tree(tree) {
+        append(out, b"(")?;
+        write_operand(tree, site, out)?;
+        append(out, b")")?;
+        Ok(())
+    } else {
+        write_operand(tree, site, out)?;
+        Ok(())
     }
 }

@@ -1,0 +1,2 @@
+mod Layers
+pub mod Exact

@@ -1,0 +1,13 @@
+pub mod Lists
+pub mod Literals
+pub mod Clauses
+pub mod Tables
+pub mod Judgements
+pub mod Propagations
+pub mod Runs
+pub mod Denials
+pub mod Checks
+pub mod Markings
+pub mod Rights
+pub mod Shows
+pub mod Models

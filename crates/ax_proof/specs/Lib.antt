@@ -1,0 +1,12 @@
+pub mod Literal
+pub mod Clause
+pub mod Assignment
+pub mod Propagation
+pub mod Lines
+pub mod Uses
+pub mod Denied
+pub mod Laws
+pub mod Trail
+pub mod Truths
+pub mod Runs
+pub mod Marks
