@@ -1,0 +1,18 @@
+-- Where the slots of a program stand in its text, and what they hold.
+use Rattle.std.specs.Prelude.{ℕ, ◌≤◌}
+use Rattle.std.specs.List.{All}
+use Rattle.ax_prog.specs.declared.Span.{Span}
+use Rattle.ax_prog.specs.declared.Program.{Program}
+use Rattle.ax_prog.specs.Substitution.{FitsSlot}
+
+-- a stretch of a text of so many bytes
+abbrev pub LiesIn : ℕ → Span → Type 0
+LiesIn len span = (span.from ≤ span.to) × (span.to ≤ len)
+
+-- each slot stands in a text of so many bytes
+abbrev pub SlotsLie : ℕ → Program → Type 0
+SlotsLie len program = All (λ slot. LiesIn len slot.span) program.slots
+
+-- each slot's own tree fits it
+abbrev pub SlotsFit : Program → Type 0
+SlotsFit program = All (λ slot. FitsSlot slot slot.expr) program.slots
