@@ -1,4 +1,4 @@
-use crate::{Choice, Order, WordFault, read_words};
+use crate::{Choice, Order, RepairOrder, WordFault, read_words};
 use std::alloc::{AllocError, Global};
 use std::test::Fail;
 
@@ -14,8 +14,15 @@ fn words_of(alloc: Global, line: &str) -> Result<Vec<String>, AllocError> {
 fn told(alloc: Global, read: Result<Order, WordFault>) -> Result<String, AllocError> {
     match read {
         Ok(Order::Repair(o)) => {
-            let (b, s) = (o.bounds, o.sets);
-            let choice = match o.choice {
+            let RepairOrder {
+                choice,
+                sets,
+                bounds,
+                paths,
+                budget,
+                ..
+            } = o;
+            let choice = match choice {
                 Choice::Top { count, formula } => format!(in alloc; "top {count} {formula}")?,
                 Choice::Pick(numbers) => {
                     let first = numbers.get(0).copied().unwrap_or(0);
@@ -23,9 +30,8 @@ fn told(alloc: Global, read: Result<Order, WordFault>) -> Result<String, AllocEr
                     format!(in alloc; "pick {first} of {count}")?
                 }
             };
-            let (steps, evals, grow) = (b.steps, b.evals, b.grow);
-            let (paths, budget) = (o.paths, o.budget);
-            let (cmp, vars, guard) = (s.cmp, s.vars, s.guard);
+            let (steps, evals, grow) = (bounds.steps, bounds.evals, bounds.grow);
+            let (cmp, vars, guard) = (sets.cmp, sets.vars, sets.guard);
             format!(in alloc;
                 "{choice}, {steps} {evals} {grow} {paths} {budget}, {cmp} {vars} {guard}"
             )
