@@ -1,0 +1,9 @@
+pub mod Signs
+pub mod Compares
+pub mod Sums
+pub mod Products
+pub mod Shifts
+pub mod Divisions
+pub mod FormValues
+pub mod AtWords
+pub mod Laws
