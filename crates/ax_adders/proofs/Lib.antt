@@ -1,0 +1,4 @@
+pub mod Additions
+pub mod Compares
+pub mod Signs
+pub mod Laws

@@ -1,0 +1,5 @@
+pub mod GateLaws
+pub mod Circuits
+pub mod Laws
+pub mod WordLaws
+pub mod Values

@@ -1,0 +1,14 @@
+use Rattle.std.proofs.Common.{◌≡◌, ◌+◌, ◌++◌, drop}
+use Rattle.ax_proof.specs.Runs.{Begins}
+use Rattle.ax_gates.specs.Gates.{blocks}
+use Rattle.ax_gates.specs.Words.{fresh, pairwise}
+use Rattle.ax_gates.specs.Bitwise.{bit_gate}
+use Rattle.ax_gates.proofs.words.bit_by_bit.Given as goal
+
+abbrev pub invariant-loop-i : goal.invariant-loop-i
+invariant-loop-i l = record {
+  vars : l.cnf.vars ≡ l.initial.cnf.vars + l.i;
+  clauses : l.cnf.clauses.items ++ blocks l.cnf.vars (pairwise (bit_gate l.op) (drop l.i l.a) (drop l.i l.b)) ≡ l.initial.cnf.clauses.items ++ blocks l.initial.cnf.vars (pairwise (bit_gate l.op) l.a l.b);
+  outs : l.outs.items ++ fresh l.cnf.vars (drop l.i l.a) ≡ fresh l.initial.cnf.vars l.a;
+  begins : Begins l.initial.cnf.clauses.items l.cnf.clauses.items;
+}

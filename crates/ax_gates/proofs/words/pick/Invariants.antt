@@ -1,0 +1,13 @@
+use Rattle.std.proofs.Common.{◌≡◌, ◌+◌, ◌++◌, drop}
+use Rattle.ax_proof.specs.Runs.{Begins}
+use Rattle.ax_gates.specs.Gates.{blocks}
+use Rattle.ax_gates.specs.Words.{fresh, pick_gates}
+use Rattle.ax_gates.proofs.words.pick.Given as goal
+
+abbrev pub invariant-loop-i : goal.invariant-loop-i
+invariant-loop-i l = record {
+  vars : l.cnf.vars ≡ l.initial.cnf.vars + l.i;
+  clauses : l.cnf.clauses.items ++ blocks l.cnf.vars (pick_gates l.f (drop l.i l.a) (drop l.i l.b)) ≡ l.initial.cnf.clauses.items ++ blocks l.initial.cnf.vars (pick_gates l.f l.a l.b);
+  outs : l.outs.items ++ fresh l.cnf.vars (drop l.i l.a) ≡ fresh l.initial.cnf.vars l.a;
+  begins : Begins l.initial.cnf.clauses.items l.cnf.clauses.items;
+}
