@@ -1,0 +1,3 @@
+pub mod Passing
+pub mod Completions
+pub mod Weights
