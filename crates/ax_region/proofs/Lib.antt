@@ -1,0 +1,9 @@
+pub mod Lists
+pub mod Places
+pub mod Members
+pub mod Nodes
+pub mod Regions
+pub mod Spaces
+pub mod Tops
+pub mod RegionSteps
+pub mod Sizes
