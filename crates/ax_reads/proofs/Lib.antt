@@ -1,3 +1,4 @@
-mod Standing
+pub mod Standing
 mod Values
 mod Slots
+mod Rising

@@ -21,19 +21,19 @@ abbrev pub Stand : ℕ → ℕ → List Token → Type 0
 Stand len at [] = at ≤ len
 Stand len at (t ∷ ts) = (at ≤ t.span.from) × (t.span.from ≤ t.span.to) × IsPlain t.kind × Stand len t.span.to ts
 
-begins : (len at : ℕ) (ts : List Token) → Stand len at ts → at ≤ len
+pub begins : (len at : ℕ) (ts : List Token) → Stand len at ts → at ≤ len
 begins len at [] h = h
 begins len at (t ∷ ts) h = let r : t.span.to ≤ len = begins len t.span.to ts h.3 in omega (arith, h.0, h.1)
 
-ends : (len at : ℕ) (ts : List Token) → Stand len at ts → (at ≤ end_of at ts) × (end_of at ts ≤ len)
+pub ends : (len at : ℕ) (ts : List Token) → Stand len at ts → (at ≤ end_of at ts) × (end_of at ts ≤ len)
 ends len at [] h = (omega arith, h)
 ends len at (t ∷ ts) h = let r = ends len t.span.to ts h.3 in (omega (arith, h.0, h.1, r.0), r.1)
 
-earlier : (len a b : ℕ) (ts : List Token) → a ≤ b → Stand len b ts → Stand len a ts
+pub earlier : (len a b : ℕ) (ts : List Token) → a ≤ b → Stand len b ts → Stand len a ts
 earlier len a b [] le h = omega (arith, le, h)
 earlier len a b (t ∷ ts) le h = (omega (arith, le, h.0), h.1, h.2, h.3)
 
-split : (len at : ℕ) (xs ys : List Token) → Stand len at (xs ++ ys) → Stand len at xs × Stand len (end_of at xs) ys
+pub split : (len at : ℕ) (xs ys : List Token) → Stand len at (xs ++ ys) → Stand len at xs × Stand len (end_of at xs) ys
 split len at [] ys h = (begins len at ys h, h)
 split len at (t ∷ xs) ys h = let r = split len t.span.to xs ys h.3 in ((h.0, h.1, h.2, r.0), r.1)
 

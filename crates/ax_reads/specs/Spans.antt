@@ -1,5 +1,5 @@
 -- Where the slots of a program stand in its text, and what they hold.
-use Rattle.std.specs.Prelude.{ℕ, ◌≤◌}
+use Rattle.std.specs.Prelude.{ℕ, ◌≤◌, AllPairs}
 use Rattle.std.specs.List.{All}
 use Rattle.ax_prog.specs.declared.Span.{Span}
 use Rattle.ax_prog.specs.declared.Program.{Program}
@@ -16,3 +16,7 @@ SlotsLie len program = All (λ slot. LiesIn len slot.span) program.slots
 -- each slot's own tree fits it
 abbrev pub SlotsFit : Program → Type 0
 SlotsFit program = All (λ slot. FitsSlot slot slot.expr) program.slots
+
+-- each slot ends before the next one begins
+abbrev pub SlotsRise : Program → Type 0
+SlotsRise program = AllPairs (λ a b. a.span.to ≤ b.span.from) program.slots

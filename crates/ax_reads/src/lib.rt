@@ -9,7 +9,7 @@ ghost use Rattle.ax_lex.specs.Pieces.{SpellsTokens};
 ghost use Rattle.ax_parse.specs.declared.tree.Tree.{Tree};
 ghost use Rattle.ax_parse.specs.Grammar.{SpellsTree};
 ghost use Rattle.ax_names.specs.Rules.{IsProgramOf};
-ghost use Rattle.ax_reads.specs.Spans.{LiesIn, SlotsLie, SlotsFit};
+ghost use Rattle.ax_reads.specs.Spans.{LiesIn, SlotsLie, SlotsFit, SlotsRise};
 
 #[cfg(test)]
 mod tests;
@@ -31,4 +31,9 @@ pub fn slots_lie()
 /// Each slot's own tree fits the slot: its numbers aren't negative, and its atoms are the slot's (a law).
 pub fn slots_fit()
     ensures { (bytes : Text) (tokens : List Token) (tree : Tree) (program : Program) → SpellsTokens bytes tokens → SpellsTree tree tokens → IsProgramOf tree program → SlotsFit program }
+{}
+
+/// The slots stand one after another: each ends before the next one begins (a law).
+pub fn slots_rise()
+    ensures { (bytes : Text) (tokens : List Token) (tree : Tree) (program : Program) → SpellsTokens bytes tokens → SpellsTree tree tokens → IsProgramOf tree program → SlotsRise program }
 {}
