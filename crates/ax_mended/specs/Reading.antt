@@ -1,0 +1,66 @@
+-- Repaired sources, read back.
+use Rattle.std.specs.Prelude.{◌≡◌, ℕ, false, List}
+use Rattle.std.specs.List.{All}
+use Rattle.ax_prog.specs.declared.Bounds.{Bounds}
+use Rattle.ax_prog.specs.declared.Program.{Program}
+use Rattle.ax_prog.specs.declared.Sets.{Sets}
+use Rattle.ax_prog.specs.declared.SlotId.{SlotId}
+use Rattle.ax_prog.specs.declared.Test.{Test}
+use Rattle.ax_prog.specs.Same.{SameProgram}
+use Rattle.ax_front.specs.Texts.{IsProgramOfText}
+use Rattle.ax_space.specs.declared.Patch.{Patch}
+use Rattle.ax_space.specs.Chosen.{AreChosen, space_of}
+use Rattle.ax_space.specs.Patches.{IsPatch, patched}
+use Rattle.ax_least.specs.Least.{PassesWithin, IsRepair}
+use Rattle.ax_back.specs.Changes.{IsFree, IsWritable}
+use Rattle.ax_repair.specs.Written.{written}
+
+-- the chosen expressions of the program of a text, none of them that of `return 0;`, and the trees of a patch that the
+-- grammar has
+pub record IsWritten (source : List ℕ) (program : Program) (ids : List SlotId) (patch : Patch) : Type 0 where
+  pub text : IsProgramOfText source program
+  pub chosen : AreChosen program ids
+  pub free : All (IsFree program) ids
+  pub writable : All IsWritable patch.trees
+
+-- the written source is the text of the patched program, spans aside
+pub record ReadsBack (source : List ℕ) (program : Program) (ids : List SlotId) (patch : Patch) : Type 0 where
+  pub new : Program
+  pub read : IsProgramOfText (written source program ids patch.trees) new
+  pub same : SameProgram new (patched program ids patch)
+
+-- the written source is the text of a program that passes every test within the bounds
+pub record PassesBack (source : List ℕ) (program : Program) (tests : List Test) (bounds : Bounds) (ids : List SlotId) (patch : Patch) : Type 0 where
+  pub back : ReadsBack source program ids patch
+  pub passes : All (PassesWithin back.new bounds ids) tests
+
+-- no sets but `cmp` and `consts`
+pub record AreComparisons (sets : Sets) : Type 0 where
+  pub logic : sets.logic ≡ false
+  pub arith : sets.arith ≡ false
+  pub mul : sets.mul ≡ false
+  pub bits : sets.bits ≡ false
+  pub vars : sets.vars ≡ false
+  pub guard : sets.guard ≡ false
+
+-- ---- laws
+
+-- a source in which a patch is written reads back as the patched program
+abbrev pub WrittenReadsBack : Type 0
+WrittenReadsBack =
+    (source : List ℕ) (program : Program) (ids : List SlotId) (sets : Sets) (grow : ℕ) (patch : Patch) →
+    IsWritten source program ids patch → IsPatch (space_of program ids sets grow) patch → ReadsBack source program ids patch
+
+-- a source in which a repair is written, read back, passes every test within the bounds
+abbrev pub RepairedPasses : Type 0
+RepairedPasses =
+    (source : List ℕ) (program : Program) (tests : List Test) (bounds : Bounds) (ids : List SlotId) (sets : Sets) (grow : ℕ) (patch : Patch) →
+    IsWritten source program ids patch → IsRepair program tests bounds (space_of program ids sets grow) patch →
+    PassesBack source program tests bounds ids patch
+
+-- with comparisons alone the grammar has the trees of every patch
+abbrev pub ComparisonsAreWritable : Type 0
+ComparisonsAreWritable =
+    (source : List ℕ) (program : Program) (ids : List SlotId) (sets : Sets) (grow : ℕ) (patch : Patch) →
+    IsProgramOfText source program → AreChosen program ids → AreComparisons sets → IsPatch (space_of program ids sets grow) patch →
+    All IsWritable patch.trees

@@ -1,0 +1,5 @@
+mod Parts
+mod Lying
+mod Stays
+mod Tried
+mod Costs
