@@ -1,4 +1,10 @@
 pub mod Files
 pub mod Judging
+pub mod Orders
+pub mod Built
+pub mod Repairs
+pub mod Ends
+pub mod Delivery
 pub mod Reports
 pub mod Causes
+pub mod Headline

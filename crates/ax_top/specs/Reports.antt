@@ -1,25 +1,36 @@
 -- The reports, and how an order ends with one.
-use Rattle.std.specs.Prelude.{◌≡◌, ◌≤◌, ◌⊎◌, ◌++◌, ℕ, List, [], ◌∷◌, codes, string_bytes}
+use Rattle.std.specs.Prelude.{◌≡◌, ◌⊎◌, ◌++◌, ℕ, List, [], codes, string_bytes}
 use Rattle.std.specs.Fmt.{decimal}
 use Rattle.ax_lex.specs.declared.LexFault.{LexFault}
 use Rattle.ax_lex.specs.declared.LexFault.TheVariants as lex
 use Rattle.ax_outside.specs.Seen.{Adds, AddsPart, NoLess, Rose, Seen}
 use Rattle.ax_suite.specs.declared.SuiteFault.{SuiteFault}
 use Rattle.ax_suite.specs.declared.SuiteFault.TheVariants as suite
-use Rattle.ax_words.specs.declared.order.RepairOrder.{RepairOrder}
+use Rattle.ax_front.specs.declared.SourceFault.{SourceFault}
+use Rattle.ax_front.specs.declared.SourceFault.TheVariants as front
+use Rattle.ax_parse.specs.declared.faults.ParseFault.TheVariants as parse
+use Rattle.ax_words.specs.declared.order.Order.{Order}
+use Rattle.ax_words.specs.declared.order.Order.TheVariants.{Check, Gen, Rank, Repair, Run}
 use Rattle.ax_words.specs.declared.order.WordFault.{WordFault}
 use Rattle.ax_words.specs.declared.order.WordFault.TheVariants as words
 use Rattle.ax_top.specs.declared.files.File.{File}
-use Rattle.ax_top.specs.declared.files.File.TheVariants.{Source, Tests}
+use Rattle.ax_top.specs.declared.files.File.TheVariants.{Cert, Source, Tests}
 use Rattle.ax_top.specs.declared.files.Stop.{Stop}
 use Rattle.ax_top.specs.declared.files.Stop.TheVariants as stop
 
-abbrev pub name_of : RepairOrder → File → List ℕ
-name_of o Source = string_bytes o.source
-name_of o Tests = string_bytes o.tests
+-- of three names that of a file
+abbrev pub one_of : File → List ℕ → List ℕ → List ℕ → List ℕ
+one_of Source source tests cert = source
+one_of Tests source tests cert = tests
+one_of Cert source tests cert = cert
 
-abbrev pub not_built : List ℕ
-not_built = codes "not built\n"
+-- an order that has no such file has no name for it
+abbrev pub name_of : Order → File → List ℕ
+name_of (Repair o) file = one_of file (string_bytes o.source) (string_bytes o.tests) (string_bytes o.cert)
+name_of (Check source tests patched cert) file = one_of file (string_bytes source) (string_bytes tests) (string_bytes cert)
+name_of (Run source tests steps) file = one_of file (string_bytes source) (string_bytes tests) []
+name_of (Rank source tests formula steps) file = one_of file (string_bytes source) (string_bytes tests) []
+name_of (Gen n) file = []
 
 abbrev pub refused_at : List ℕ → ℕ → List ℕ
 refused_at what at = codes "source refused: " ++ (what ++ (codes " at " ++ (decimal at ++ codes "\n")))
@@ -30,6 +41,13 @@ lex_report (lex.BadByte at) = refused_at (codes "bad byte") at
 lex_report (lex.OpenComment at) = refused_at (codes "open comment") at
 lex_report (lex.NumberTooLarge at) = refused_at (codes "number too large") at
 lex_report (lex.TooManyTokens at) = refused_at (codes "too many tokens") at
+
+abbrev pub source_report : SourceFault → List ℕ
+source_report front.Memory = []
+source_report (front.Lex fault) = lex_report fault
+source_report (front.Parse (parse.TooDeep at)) = refused_at (codes "too deep") at
+source_report (front.Parse other) = []
+source_report front.NotBuilt = []
 
 abbrev pub test_report : List ℕ → ℕ → List ℕ
 test_report what test = codes "suite refused: " ++ (what ++ (codes " in test " ++ (decimal test ++ codes "\n")))
@@ -58,22 +76,28 @@ words_report words.SameName = codes "words refused: same name\n"
 abbrev pub file_report : List ℕ → List ℕ → List ℕ
 file_report what name = what ++ (name ++ codes "\n")
 
-abbrev pub stop_report : RepairOrder → Stop → List ℕ
-stop_report o stop.Memory = []
-stop_report o (stop.ReadFailed file) = file_report (codes "read failed: ") (name_of o file)
-stop_report o (stop.TooLong file) = file_report (codes "file too long: ") (name_of o file)
-stop_report o (stop.Lex fault) = lex_report fault
-stop_report o (stop.TooDeep at) = refused_at (codes "too deep") at
-stop_report o (stop.Suite fault) = suite_report fault
-stop_report o stop.NotBuilt = not_built
+-- a picked number, and how many candidates there are
+abbrev pub candidate_report : ℕ → ℕ → List ℕ
+candidate_report picked count = codes "no candidate " ++ (decimal picked ++ (codes " of " ++ (decimal count ++ codes "\n")))
+
+abbrev pub stop_report : Order → Stop → List ℕ
+stop_report order stop.Memory = []
+stop_report order stop.NoRanker = codes "no ranker\n"
+stop_report order (stop.ReadFailed file) = file_report (codes "read failed: ") (name_of order file)
+stop_report order (stop.TooLong file) = file_report (codes "file too long: ") (name_of order file)
+stop_report order (stop.Source fault) = source_report fault
+stop_report order (stop.Suite fault) = suite_report fault
+stop_report order (stop.NoCandidate picked count) = candidate_report picked count
+stop_report order stop.NotBuilt = codes "not built\n"
 
 abbrev pub stop_status : Stop → ℕ
-stop_status stop.Memory = 10
-stop_status (stop.ReadFailed file) = 6
-stop_status (stop.TooLong file) = 5
-stop_status (stop.Lex fault) = 3
-stop_status (stop.TooDeep at) = 3
+stop_status stop.NoRanker = 2
+stop_status (stop.NoCandidate picked count) = 2
+stop_status (stop.Source fault) = 3
 stop_status (stop.Suite fault) = 4
+stop_status (stop.TooLong file) = 5
+stop_status (stop.ReadFailed file) = 6
+stop_status stop.Memory = 10
 stop_status stop.NotBuilt = 11
 
 -- a report was printed whole, or a print failed after a part of it; no name changes

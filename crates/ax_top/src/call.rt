@@ -1,15 +1,15 @@
 //! The top call.
-ghost use Rattle.std.specs.Prelude.{◌≡◌, map, string_bytes};
+ghost use Rattle.std.specs.Prelude.{map, string_bytes};
 ghost use Rattle.ax_top.specs.Causes.{Does, Keeps, OrderStopped, WordsRefused};
-ghost use Rattle.ax_top.specs.Reports.{Finishes, not_built};
-ghost use Rattle.ax_words.specs.Words.{Says};
+ghost use Rattle.ax_top.specs.Headline.{Headline};
 
+use crate::delivery::give;
 use crate::files::Stop;
-use crate::judging::judge_files;
+use crate::orders::result_of;
 use crate::report::{print_refusal, status_of, stop_text, words_text};
 use ax_outside::Shelf;
 use ax_rank::Ranker;
-use ax_words::{Order, RepairOrder, WordFault, read_words};
+use ax_words::{Order, WordFault, read_words};
 use std::alloc::Global;
 
 fn refuse_words<S: Shelf>(alloc: Global, fault: &WordFault, shelf: &mut S) -> u8
@@ -27,10 +27,9 @@ fn refuse_words<S: Shelf>(alloc: Global, fault: &WordFault, shelf: &mut S) -> u8
     }
 }
 
-fn repair<S: Shelf>(alloc: Global, order: &RepairOrder, shelf: &mut S) -> u8
-    ensures { OrderStopped (S.seen shelf.old) (S.seen shelf.new) order.now result }
+fn refuse_order<S: Shelf>(alloc: Global, order: &Order, stop: Stop, shelf: &mut S) -> u8
+    ensures { OrderStopped (S.seen shelf.old) (S.seen shelf.new) order.now stop result }
 {
-    let stop = judge_files(alloc, order, shelf);
     if stop == Stop::Memory {
         return 10;
     }
@@ -43,42 +42,42 @@ fn repair<S: Shelf>(alloc: Global, order: &RepairOrder, shelf: &mut S) -> u8
     }
 }
 
-fn refuse_other<S: Shelf>(shelf: &mut S) -> u8
-    ensures { (result ≡ 11) × Finishes (S.seen shelf.old) (S.seen shelf.new) not_built }
-{
-    print_refusal(shelf, "not built\n");
-    11
-}
-
 /// Does all that the program does, and answers the status with which it is to end.
 ///
 /// | Status | Comes |
 /// |---|---|
-/// | 2 | the words are no order |
+/// | 0 | a least repair was written under OUT and reported |
+/// | 1 | there is no repair |
+/// | 2 | the words are no order, no handed-in ranker has the name that it needs, or a picked number is no candidate's |
 /// | 3 | the source spells no tokens, or they nest too deeply |
 /// | 4 | the tests are no suite |
-/// | 5 | a file has more than 1,048,576 bytes |
+/// | 5 | a file has more bytes than it may have: 268,435,456 for a certificate, 1,048,576 for the others |
 /// | 6 | a file couldn't be read |
+/// | 7 | OUT couldn't be put, or the report of 0 or 1 couldn't be printed |
 /// | 10 | memory was wanting |
-/// | 11 | the rest of the order isn't built yet |
+/// | 11 | the source isn't of the first form, or the rest of the order isn't built yet |
 ///
-/// The first of these in the order words, source, tests comes. The report is printed after all else, but at 10 nothing
-/// is. No name of the shelf changes. Rankers aren't used yet.
+/// The first of these comes in the order words, ranker, source, tests, picked numbers or certificate, as far as the
+/// command has them; 0, 1 or 7 comes where none of the others does. The report is printed after all else, but at 10, and
+/// at 7 after a put that failed, nothing is. No name of the shelf but OUT changes, and OUT at 0 and 7 alone.
+///
+/// An order to repair is built where it takes `cmp` alone and picks one candidate of at most three binary operators,
+/// other than that of the `return 0;` at the end.
 pub fn angelix<S: Shelf>(
     alloc: Global,
     words: Vec<String>,
     shelf: &mut S,
-    _rankers: Vec<Box<dyn Ranker>>,
+    rankers: Vec<Box<dyn Ranker>>,
 ) -> u8
-    ensures does { Does (S.seen shelf.old) (S.seen shelf.new) (map string_bytes words.items) result }
-    ensures keeps { Keeps (S.seen shelf.old) (S.seen shelf.new) }
+    ensures does { Does (S.seen shelf.old) (S.seen shelf.new) (map (λ r. title r) rankers.items) (map string_bytes words.items) result }
+    ensures headline { Headline (S.seen shelf.old) (S.seen shelf.new) (map (λ r. title r) rankers.items) (map string_bytes words.items) result }
+    ensures keeps { Keeps (S.seen shelf.old) (S.seen shelf.new) (map string_bytes words.items) }
 {
     match read_words(alloc, &words) {
         Err(fault) => refuse_words(alloc, &fault, shelf),
-        Ok(Order::Repair(order)) => repair(alloc, &order, shelf),
-        Ok(Order::Check { .. }) => refuse_other(shelf),
-        Ok(Order::Run { .. }) => refuse_other(shelf),
-        Ok(Order::Rank { .. }) => refuse_other(shelf),
-        Ok(Order::Gen { .. }) => refuse_other(shelf),
+        Ok(order) => match result_of(alloc, &order, &rankers, shelf) {
+            Err(stop) => refuse_order(alloc, &order, stop, shelf),
+            Ok(answer) => give(&order, &answer, shelf),
+        },
     }
 }

@@ -1,12 +1,17 @@
 //! The top call: everything that the program does, over a shelf.
 //!
-//! So far an order is read and judged, and so are the files of an order to repair; what would come after all refusals
-//! is answered as not built.
+//! An order is read and judged, with its ranker, its files and its picked numbers. An order to repair that is built is
+//! then answered by a least repair, or by there being none; every other one is answered as not built.
 #![tactic(auto)]
 
+mod answer;
+mod built;
 mod call;
+mod delivery;
 mod files;
 mod judging;
+mod orders;
+mod rankers;
 mod report;
 #[cfg(test)]
 mod tests;

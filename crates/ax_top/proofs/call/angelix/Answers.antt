@@ -1,27 +1,34 @@
-use Rattle.ax_top.proofs.Rows.{other-does, refused-does, repair-does}
+use Rattle.ax_top.proofs.Grown.{grows-little}
+use Rattle.ax_top.proofs.Promises.{headline, keeps}
+use Rattle.ax_top.proofs.Rows.{answered-does, refused-does, stopped-does}
 use Rattle.ax_top.proofs.call.angelix.Goals as goal
 
 pub returns-in-Err-clause-does : goal.returns-in-Err-clause-does
 returns-in-Err-clause-does g c =
-    refused-does _ _ c.deref.result.now c.args.words.items c.deref.ensures.value _ c.in-Err.fault c.in-Err.ensures c.refuse_words.ensures
+    refused-does _ _ c.deref.result.now c.args.words.items c.deref.ensures.value _ _ c.in-Err.fault c.in-Err.ensures c.refuse_words.ensures
 
-pub returns-in-Ok-Repair-clause-does : goal.returns-in-Ok-Repair-clause-does
-returns-in-Ok-Repair-clause-does g c =
-    let said = rw c.in-Ok-Repair.field-0-is at c.in-Ok-Repair.ensures in
-    repair-does _ _ c.deref.result.now c.args.words.items c.deref.ensures.value _ c.in-Ok-Repair.order said c.repair.ensures
+pub returns-in-Err-result_of-clause-does : goal.returns-in-Err-result_of-clause-does
+returns-in-Err-result_of-clause-does g c =
+    stopped-does (g.S.Shelf.seen c.args.shelf.now) (g.S.Shelf.seen c.refuse_order.new.shelf) c.deref.result.now c.args.words.items
+    c.deref.ensures.value c.refuse_order.result _ c.deref-in-Ok.result.now c.args.rankers.items c.deref-in-Ok.ensures.value
+    c.in-Ok.order c.in-Err-result_of.stop (g.S.Shelf.seen c.result_of.new.shelf) c.in-Ok.ensures c.in-Err-result_of.ensures.ends
+    c.in-Err-result_of.ensures.same c.in-Err-result_of.ensures.counts c.refuse_order.ensures
 
-pub returns-in-Ok-Check-clause-does : goal.returns-in-Ok-Check-clause-does
-returns-in-Ok-Check-clause-does g c =
-    other-does _ _ c.deref.result.now c.args.words.items c.deref.ensures.value _ c.in-Ok-Check.field-0 c.in-Ok-Check.ensures (rw c.in-Ok-Check.field-0-is tt) c.refuse_other.ensures
-
-pub returns-in-Ok-Run-clause-does : goal.returns-in-Ok-Run-clause-does
-returns-in-Ok-Run-clause-does g c =
-    other-does _ _ c.deref.result.now c.args.words.items c.deref.ensures.value _ c.in-Ok-Run.field-0 c.in-Ok-Run.ensures (rw c.in-Ok-Run.field-0-is tt) c.refuse_other-in-Ok-Run.ensures
-
-pub returns-in-Ok-Rank-clause-does : goal.returns-in-Ok-Rank-clause-does
-returns-in-Ok-Rank-clause-does g c =
-    other-does _ _ c.deref.result.now c.args.words.items c.deref.ensures.value _ c.in-Ok-Rank.field-0 c.in-Ok-Rank.ensures (rw c.in-Ok-Rank.field-0-is tt) c.refuse_other-in-Ok-Rank.ensures
+pub returns-in-Err-result_of-clause-headline : goal.returns-in-Err-result_of-clause-headline
+returns-in-Err-result_of-clause-headline g c = headline _ _ _ _ _ (returns-in-Err-result_of-clause-does g c)
 
 pub returns-clause-does : goal.returns-clause-does
 returns-clause-does g c =
-    other-does _ _ c.deref.result.now c.args.words.items c.deref.ensures.value _ c.in-Ok-Gen.field-0 c.in-Ok-Gen.ensures (rw c.in-Ok-Gen.field-0-is tt) c.refuse_other-in-Ok-Gen.ensures
+    answered-does (g.S.Shelf.seen c.args.shelf.now) (g.S.Shelf.seen c.give.new.shelf) c.deref.result.now c.args.words.items
+    c.deref.ensures.value c.give.result _ c.deref-in-Ok.result.now c.args.rankers.items c.deref-in-Ok.ensures.value
+    c.in-Ok.order c.in-Ok-result_of.answer (g.S.Shelf.seen c.result_of.new.shelf) c.in-Ok.ensures c.in-Ok-result_of.ensures.ends
+    c.in-Ok-result_of.ensures.same c.in-Ok-result_of.ensures.counts c.give.ensures
+
+pub returns-clause-headline : goal.returns-clause-headline
+returns-clause-headline g c = headline _ _ _ _ _ (returns-clause-does g c)
+
+pub returns-clause-keeps : goal.returns-clause-keeps
+returns-clause-keeps g c = keeps _ _ _ _ _ (returns-clause-does g c)
+
+pub result_of-requires : goal.result_of-requires
+result_of-requires g c = grows-little _ c.in-Ok.order c.in-Ok.ensures

@@ -1,0 +1,111 @@
+-- The headline, and what stays, from what the program does.
+use Rattle.std.proofs.Common.{◌≡◌, ◌∙◌, ℕ, List, inl, inr, sym, subst, string_bytes, arith}
+use Rattle.std.specs.Prelude.{◌⊎◌, Ok}
+use Rattle.ax_outside.specs.Seen.{Adds, AddsPart, Holds, NoLess, Rose, Seen}
+use Rattle.ax_outside.proofs.Steps.{no_less-then}
+use Rattle.ax_words.specs.declared.order.Order.TheVariants.{Repair}
+use Rattle.ax_words.specs.declared.order.RepairOrder.{RepairOrder}
+use Rattle.ax_words.specs.Words.{Says}
+use Rattle.ax_top.specs.declared.answer.Answer.{Answer}
+use Rattle.ax_top.specs.declared.answer.Answer.TheVariants as answer
+use Rattle.ax_top.specs.declared.files.Stop.{Stop}
+use Rattle.ax_top.specs.declared.files.Stop.TheVariants as stop
+use Rattle.ax_top.specs.Causes.{Does, Keeps, IsNotOut, answered, memory, refused, stopped}
+use Rattle.ax_top.specs.Delivery.{Delivery, Gives, print_failed, put_failed, whole}
+use Rattle.ax_top.specs.Headline.{FoundNone, GaveLess, Headline, WroteLeast}
+use Rattle.ax_top.specs.Repairs.{Answers, no_repair_report}
+use Rattle.ax_top.specs.Reports.{stop_status}
+
+module _ (old new : Seen) (titles words : List (List ℕ)) (status : ℕ) where
+  none-of : (n : ℕ) → (n ≡ 0 → ⊥) → (n ≡ 1 → ⊥) → (n ≡ 7 → ⊥) → status ≡ n → Headline old new titles words status
+  none-of n zero one seven e = record {
+    zero = λ h. absurd (zero (sym e ∙ h));
+    one = λ h. absurd (one (sym e ∙ h));
+    seven = λ h. absurd (seven (sym e ∙ h));
+  }
+
+  by-stop : (why : Stop) → status ≡ stop_status why → Headline old new titles words status
+  by-stop stop.Memory e = none-of 10 (λ h. omega arith) (λ h. omega arith) (λ h. omega arith) e
+  by-stop stop.NoRanker e = none-of 2 (λ h. omega arith) (λ h. omega arith) (λ h. omega arith) e
+  by-stop (stop.ReadFailed file) e = none-of 6 (λ h. omega arith) (λ h. omega arith) (λ h. omega arith) e
+  by-stop (stop.TooLong file) e = none-of 5 (λ h. omega arith) (λ h. omega arith) (λ h. omega arith) e
+  by-stop (stop.Source fault) e = none-of 3 (λ h. omega arith) (λ h. omega arith) (λ h. omega arith) e
+  by-stop (stop.Suite fault) e = none-of 4 (λ h. omega arith) (λ h. omega arith) (λ h. omega arith) e
+  by-stop (stop.NoCandidate picked count) e = none-of 2 (λ h. omega arith) (λ h. omega arith) (λ h. omega arith) e
+  by-stop stop.NotBuilt e = none-of 11 (λ h. omega arith) (λ h. omega arith) (λ h. omega arith) e
+
+  wrote : (o : RepairOrder) (text lines : List ℕ) → Says words (Ok (Repair o)) → Answers old titles o (answer.Repaired text lines)
+      → Holds (old.kept (string_bytes o.out)) text (new.kept (string_bytes o.out)) → Adds old.printed lines new.printed → WroteLeast old new titles words
+  wrote o text lines says a holds adds = record {
+    order = o;
+    source = a.source;
+    program = a.program;
+    suite = a.suite;
+    chosen = a.chosen;
+    patch = a.answered.patch;
+    cost = a.answered.cost;
+    says = says;
+    sought = a.sought;
+    least = a.answered.least;
+    holds = subst (λ t. Holds (old.kept (string_bytes o.out)) t (new.kept (string_bytes o.out))) a.answered.is_text holds;
+    back = a.answered.back;
+    reports = subst (λ t. Adds old.printed t new.printed) a.answered.is_report adds;
+  }
+
+  by-delivery : (o : RepairOrder) (text lines : List ℕ) → Says words (Ok (Repair o)) → Answers old titles o (answer.Repaired text lines)
+      → Delivery old new (string_bytes o.out) text lines status → Headline old new titles words status
+  by-delivery o text lines says a (whole e holds adds) = record {
+    zero = λ h. wrote o text lines says a holds adds;
+    one = λ h. absurd (omega arith);
+    seven = λ h. absurd (omega arith);
+  }
+  by-delivery o text lines says a (put_failed e holds stays rose) = record {
+    zero = λ h. absurd (omega arith);
+    one = λ h. absurd (omega arith);
+    seven = λ h. record { order = o; says = says; rose = inl rose };
+  }
+  by-delivery o text lines says a (print_failed e holds adds rose) = record {
+    zero = λ h. absurd (omega arith);
+    one = λ h. absurd (omega arith);
+    seven = λ h. record { order = o; says = says; rose = inr rose };
+  }
+
+  by-report : (o : RepairOrder) → Says words (Ok (Repair o)) → Answers old titles o answer.NoRepair
+      → ((status ≡ 1) × Adds old.printed no_repair_report new.printed) ⊎ ((status ≡ 7) × AddsPart old.printed no_repair_report new.printed × Rose old.prints new.prints)
+      → Headline old new titles words status
+  by-report o says a (inl done) =
+      let e : status ≡ 1 = done.0 in record {
+        zero = λ h. absurd (omega arith);
+        one = λ h. record { order = o; source = a.source; program = a.program; suite = a.suite; chosen = a.chosen; says = says; sought = a.sought; none = a.answered; reports = done.1 };
+        seven = λ h. absurd (omega arith);
+      }
+  by-report o says a (inr failed) =
+      let e : status ≡ 7 = failed.0 in record {
+        zero = λ h. absurd (omega arith);
+        one = λ h. absurd (omega arith);
+        seven = λ h. record { order = o; says = says; rose = inr failed.2 };
+      }
+
+  by-answer : (o : RepairOrder) (it : Answer) → Says words (Ok (Repair o)) → Answers old titles o it → Gives old new (string_bytes o.out) it status
+      → Headline old new titles words status
+  by-answer o (answer.Repaired text lines) says a d = by-delivery o text lines says a d.ended
+  by-answer o answer.NoRepair says a r = by-report o says a r.ended
+
+  pub headline : Does old new titles words status → Headline old new titles words status
+  headline (memory e same less) = none-of 10 (λ h. omega arith) (λ h. omega arith) (λ h. omega arith) e
+  headline (refused fault m says e f) = none-of 2 (λ h. omega arith) (λ h. omega arith) (λ h. omega arith) e
+  headline (stopped it why mid says stops same less e f) = by-stop why e
+  headline (answered o it says a gives) = by-answer o it says a gives
+
+  keeps-out : (o : RepairOrder) (it : Answer) → Says words (Ok (Repair o)) → Gives old new (string_bytes o.out) it status → Keeps old new words
+  keeps-out o (answer.Repaired text lines) says d = record { kept = λ f h. d.others f (h o says); counts = d.counts }
+  keeps-out o answer.NoRepair says r = record { kept = λ f h. r.kept f; counts = r.counts }
+
+  pub keeps : Does old new titles words status → Keeps old new words
+  keeps (memory e same less) = record { kept = λ f h. same.kept f; counts = less }
+  keeps (refused fault m says e f) = record { kept = λ g h. f.kept g; counts = f.counts }
+  keeps (stopped it why mid says stops same less e f) = record {
+    kept = λ g h. f.kept g ∙ same.kept g;
+    counts = no_less-then _ _ _ less f.counts;
+  }
+  keeps (answered o it says a gives) = keeps-out o it says gives

@@ -1,0 +1,68 @@
+-- Which orders to repair are built, and the expressions that they choose.
+use Rattle.std.specs.Prelude.{◌≡◌, ℕ, ◌+◌, ◌-◌, nat_le, nat_lt, length, Bool, true, false, ◌&&◌, not, if◌then◌else◌, List, [], ◌∷◌, Option, None, Some, option_map, option_and_then, slice_get}
+use Rattle.ax_prog.specs.declared.Expr.{Expr, Num, Atom', Un', Bin', Cond'}
+use Rattle.ax_prog.specs.declared.Atom.TheBlock.{more_of-Expr, end_of-Expr}
+use Rattle.ax_prog.specs.declared.Sets.{Sets}
+use Rattle.ax_prog.specs.declared.SlotId.{SlotId}
+use Rattle.ax_prog.specs.declared.Program.{Program}
+use Rattle.ax_prog.specs.Candidates.{candidates_of, tree_at}
+use Rattle.ax_words.specs.declared.order.RepairOrder.{RepairOrder}
+use Rattle.ax_space.specs.Chosen.{Chosen, space_of}
+use Rattle.ax_top.specs.declared.built.Picked.{Picked}
+use Rattle.ax_top.specs.Orders.{numbers_of}
+
+-- how many binary operators a tree has
+abbrev pub binaries : Expr → ℕ
+binaries (Num n) = 0
+binaries (Atom' s row) = 0
+binaries (Un' op s (more_of-Expr a end_of-Expr)) = binaries a
+binaries (Bin' op s (more_of-Expr a end_of-Expr) t (more_of-Expr b end_of-Expr)) = binaries a + binaries b + 1
+binaries (Cond' s (more_of-Expr f end_of-Expr) t (more_of-Expr a end_of-Expr) u (more_of-Expr b end_of-Expr)) = binaries f + binaries a + binaries b
+
+abbrev pub has_few : Option Expr → Bool
+has_few None = false
+has_few (Some tree) = nat_le (binaries tree) 3
+
+-- not the last slot: that is the one of the `return 0;` with which a source of the first form ends
+abbrev pub is_free : Program → SlotId → Bool
+is_free program id = nat_lt (id.0 + 1) (length program.slots)
+
+-- the slot, where it isn't the last one and its tree has at most three binary operators
+abbrev pub small_slot : Program → SlotId → Option SlotId
+small_slot program id = if is_free program id && has_few (tree_at program id) then Some id else None
+
+-- the slot of the candidate of that number, from 1
+abbrev pub candidate_at : Program → ℕ → Option SlotId
+candidate_at program number = slice_get (candidates_of program) (number - 1)
+
+-- the only one of the numbers
+abbrev pub only : List ℕ → Option ℕ
+only [] = None
+only (number ∷ []) = Some number
+only (number ∷ other ∷ rest) = None
+
+-- the comparisons, and no other set
+abbrev pub are_comparisons : Sets → Bool
+are_comparisons s =
+    s.cmp && (not s.logic && (not s.arith && (not s.mul && (not s.bits && (not s.vars && (not s.consts && not s.guard))))))
+
+-- The slot that is to be changed, where the order is built: it takes the comparisons alone and picks one number, that of
+-- a candidate that isn't the last slot's and has at most three binary operators. Of any other order there is none.
+abbrev pub built_slot : Program → RepairOrder → Option SlotId
+built_slot program o =
+    if are_comparisons o.sets
+    then option_and_then (λ number. option_and_then (small_slot program) (candidate_at program number)) (only (numbers_of o.choice))
+    else None
+
+-- the chosen expressions of an order that is built
+abbrev pub chosen_of : Program → RepairOrder → Option (List SlotId)
+chosen_of program o = option_map (λ id. id ∷ []) (built_slot program o)
+
+-- an order that is built: its one number, and the slot that this picks
+pub record IsPicked (program : Program) (o : RepairOrder) (picked : Picked) : Type 0 where
+  pub number : numbers_of o.choice ≡ picked.number ∷ []
+  pub slot : built_slot program o ≡ Some picked.slot
+
+-- the patches among which a repair is sought
+abbrev pub space_for : Program → RepairOrder → List SlotId → Chosen
+space_for program o chosen = space_of program chosen o.sets o.bounds.grow

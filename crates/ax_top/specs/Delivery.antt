@@ -1,0 +1,40 @@
+-- What is put and printed for an answer.
+use Rattle.std.specs.Prelude.{◌≡◌, ◌≢◌, ◌⊎◌, ℕ, List, [], string_bytes}
+use Rattle.ax_outside.specs.Seen.{Adds, AddsPart, Holds, HoldsPart, NoLess, Rose, Seen}
+use Rattle.ax_words.specs.declared.order.Order.{Order}
+use Rattle.ax_words.specs.declared.order.Order.TheVariants.{Repair}
+use Rattle.ax_top.specs.declared.answer.Answer.{Answer}
+use Rattle.ax_top.specs.declared.answer.Answer.TheVariants as answer
+use Rattle.ax_top.specs.Repairs.{no_repair_report}
+
+-- an order that has no such file has no name for it
+abbrev pub out_of : Order → List ℕ
+out_of (Repair o) = string_bytes o.out
+out_of other = []
+
+-- a report was printed, and the status is its own; or the print failed after a part of it, and the status is 7
+pub record Reports (old new : Seen) (report : List ℕ) (own status : ℕ) : Type 0 where
+  pub ended : ((status ≡ own) × Adds old.printed report new.printed)
+      ⊎ ((status ≡ 7) × AddsPart old.printed report new.printed × Rose old.prints new.prints)
+  pub kept : (f : List ℕ) → new.kept f ≡ old.kept f
+  pub counts : NoLess old new
+
+-- OUT holds the text and the report was printed; or the put failed, and nothing was printed; or OUT holds the text and the
+-- print failed
+pub data Delivery (old new : Seen) (out text report : List ℕ) (status : ℕ) : Type 0 where
+  whole : status ≡ 0 → Holds (old.kept out) text (new.kept out) → Adds old.printed report new.printed
+      → Delivery old new out text report status
+  put_failed : status ≡ 7 → HoldsPart (old.kept out) text (new.kept out) → new.printed ≡ old.printed → Rose (old.puts out) (new.puts out)
+      → Delivery old new out text report status
+  print_failed : status ≡ 7 → Holds (old.kept out) text (new.kept out) → AddsPart old.printed report new.printed → Rose old.prints new.prints
+      → Delivery old new out text report status
+
+pub record Delivers (old new : Seen) (out text report : List ℕ) (status : ℕ) : Type 0 where
+  pub ended : Delivery old new out text report status
+  pub others : (f : List ℕ) → f ≢ out → new.kept f ≡ old.kept f
+  pub counts : NoLess old new
+
+-- a repaired source is put before its report is printed; without a repair only the report is
+abbrev pub Gives : Seen → Seen → List ℕ → Answer → ℕ → Type 0
+Gives old new out (answer.Repaired text report) status = Delivers old new out text report status
+Gives old new out answer.NoRepair status = Reports old new no_repair_report 1 status

@@ -1,0 +1,136 @@
+//! Which orders to repair are built.
+ghost use Rattle.std.specs.Prelude.{◌≡◌, ◌-◌, ◌^◌, min, nat_le, option_and_then, None, IfOk, MatchOption};
+ghost use Rattle.ax_top.specs.Built.{IsPicked, are_comparisons, binaries, built_slot, candidate_at, only, small_slot};
+ghost use Rattle.ax_top.specs.Orders.{numbers_of};
+
+use ax_prog::{Expr, Program, Sets, SlotId};
+use ax_words::{Choice, RepairOrder};
+use std::alloc::{AllocError, Global};
+
+// The binary operators of a tree, or 4294967295 where there are more.
+#[tactic(auto, using(crate::proofs::Binaries::binary_layers))]
+fn binary_count(tree: &Expr) -> u32
+    ensures { result ≡ min (binaries tree.now) (2 ^ 32 - 1) }
+{
+    match tree {
+        Expr::Num(_) => 0,
+        Expr::Atom(_) => 0,
+        Expr::Un(_, a) => binary_count(a.get()),
+        Expr::Bin(_, a, b) => {
+            let a = binary_count(a.get()) as u64;
+            capped(a + binary_count(b.get()) as u64 + 1)
+        }
+        Expr::Cond(f, a, b) => {
+            let f = binary_count(f.get()) as u64;
+            let a = binary_count(a.get()) as u64;
+            capped(f + a + binary_count(b.get()) as u64)
+        }
+    }
+}
+
+fn capped(n: u64) -> u32
+    ensures { result ≡ min n (2 ^ 32 - 1) }
+{
+    if n < 4294967295 { n as u32 } else { 4294967295 }
+}
+
+fn has_few_binaries(tree: &Expr) -> bool
+    ensures { result ≡ nat_le (binaries tree.now) 3 }
+{
+    binary_count(tree) <= 3
+}
+
+// The slot, where it isn't the last one and its tree has at most three binary operators.
+fn small(program: &Program, id: SlotId) -> Option<SlotId>
+    ensures { result ≡ small_slot program.now id }
+{
+    match program.slots.get(id.0 as usize) {
+        None => None,
+        Some(slot) => {
+            if (id.0 as usize) + 1 < program.slots.len() && has_few_binaries(&slot.expr) {
+                Some(id)
+            } else {
+                None
+            }
+        }
+    }
+}
+
+fn candidate(alloc: Global, program: &Program, number: u32) -> Result<Option<SlotId>, AllocError>
+    ensures { IfOk result (λ found. found ≡ candidate_at program.now number) }
+{
+    let candidates = program.candidates(alloc)?;
+    match candidates.get(number.saturating_sub(1) as usize) {
+        None => Ok(None),
+        Some(id) => Ok(Some(*id)),
+    }
+}
+
+// The only picked number.
+fn picked_number(choice: &Choice) -> Option<u32>
+    ensures { result ≡ only (numbers_of choice.now) }
+{
+    match choice {
+        Choice::Top { .. } => None,
+        Choice::Pick(numbers) => match numbers.as_slice() {
+            [number] => Some(*number),
+            _ => None,
+        },
+    }
+}
+
+// The slot of the candidate of that number, where it is small.
+fn small_candidate(
+    alloc: Global,
+    program: &Program,
+    number: u32,
+) -> Result<Option<SlotId>, AllocError>
+    ensures { IfOk result (λ found. found ≡ option_and_then (small_slot program.now) (candidate_at program.now number)) }
+{
+    match candidate(alloc, program, number)? {
+        None => Ok(None),
+        Some(id) => Ok(small(program, id)),
+    }
+}
+
+// Whether the comparisons are taken, and no other set.
+fn takes_comparisons(sets: &Sets) -> bool
+    ensures { result ≡ are_comparisons sets.now }
+{
+    sets.cmp
+        && !sets.logic
+        && !sets.arith
+        && !sets.mul
+        && !sets.bits
+        && !sets.vars
+        && !sets.consts
+        && !sets.guard
+}
+
+/// The one picked number, and the slot of its candidate.
+#[derive(Clone, Copy, Debug)]
+pub struct Picked {
+    pub number: u32,
+    pub slot: SlotId,
+}
+
+/// What is picked, where the order is built: one candidate of at most three binary operators, other than that of the
+/// `return 0;` at the end, and comparisons alone.
+pub fn picked_of(
+    alloc: Global,
+    order: &RepairOrder,
+    program: &Program,
+) -> Result<Option<Picked>, AllocError>
+    ensures { IfOk result (λ found. MatchOption found (built_slot program.now order.now ≡ None) (IsPicked program.now order.now)) }
+{
+    if !takes_comparisons(&order.sets) {
+        return Ok(None);
+    }
+    let Some(number) = picked_number(&order.choice) else {
+        return Ok(None);
+    };
+    match small_candidate(alloc, program, number)? {
+        None => Ok(None),
+        Some(slot) => Ok(Some(Picked { number, slot })),
+    }
+}

@@ -1,0 +1,49 @@
+//! What is put and printed for an answer.
+ghost use Rattle.std.specs.Prelude.{◌≡◌};
+ghost use Rattle.ax_top.specs.Delivery.{Delivers, Gives, Reports, out_of};
+
+use crate::answer::Answer;
+use ax_outside::{Failed, Shelf};
+use ax_words::Order;
+
+// Prints the report of a result that has this status.
+fn report<S: Shelf>(shelf: &mut S, text: &[u8], own: u8) -> u8
+    ensures { Reports (S.seen shelf.old) (S.seen shelf.new) text.now own result }
+{
+    match shelf.print(text) {
+        Ok(()) => own,
+        Err(Failed) => 7,
+    }
+}
+
+// Puts a repaired source, and then prints its report.
+fn deliver<S: Shelf>(shelf: &mut S, out: &str, text: &[u8], lines: &[u8]) -> u8
+    ensures { Delivers (S.seen shelf.old) (S.seen shelf.new) out.now text.now lines.now result }
+{
+    match shelf.put(out, text) {
+        Ok(()) => report(shelf, lines, 0),
+        Err(Failed) => 7,
+    }
+}
+
+fn out_in(order: &Order) -> &str
+    ensures { result.now ≡ out_of order.now }
+{
+    match order {
+        Order::Repair(order) => order.out.as_str(),
+        _ => "",
+    }
+}
+
+/// Gives the answer to an order, and answers the status.
+pub fn give<S: Shelf>(order: &Order, answer: &Answer, shelf: &mut S) -> u8
+    ensures { Gives (S.seen shelf.old) (S.seen shelf.new) (out_of order.now) answer.now result }
+{
+    match answer {
+        Answer::Repaired {
+            text,
+            report: lines,
+        } => deliver(shelf, out_in(order), text.as_slice(), lines.as_slice()),
+        Answer::NoRepair => report(shelf, b"no repair\n", 1),
+    }
+}
