@@ -1,16 +1,10 @@
 //! Whole programs, as trees made by hand. What they print, return and use was found by hand from the standard's rules.
 use super::*;
-use ax_prog::{
-    Arg, Atom, Bin, Expr, Fun, FunId, Init, Lval, Pexpr, Slot, Span, Stmt, Ty, Value, Var, VarId,
-};
+use ax_prog::{Atom, Bin, Expr, Fun, FunId, Init, Lval, Slot, Span, Stmt, Ty, Value, Var, VarId};
 use sqlite_items::Boxed;
 
-fn list<T: Drop, const N: usize>(alloc: Global, all: [T; N]) -> Result<Items<T>, AllocError> {
-    let mut items = Items::new(alloc);
-    for it in all {
-        items.push(it)?;
-    }
-    Ok(items)
+fn list<T: Drop>(all: Vec<T>) -> Result<Items<T>, AllocError> {
+    Ok(Items::from_vec(all))
 }
 
 fn var(alloc: Global, ty: Ty) -> Var {
@@ -50,10 +44,6 @@ fn declares(v: u32) -> Stmt {
     Stmt::Decl(VarId(v), Init::Nothing)
 }
 
-fn sets(v: u32, id: u32) -> Stmt {
-    Stmt::Assign(place(v), Value::Int(SlotId(id)))
-}
-
 fn prints(id: u32) -> Stmt {
     Stmt::Print(SlotId(id))
 }
@@ -87,18 +77,18 @@ fn below(alloc: Global) -> Result<Program, AllocError> {
     let first = Boxed::new(alloc, prints(1))?;
     let second = Some(Boxed::new(alloc, prints(2))?);
     let decide = Stmt::If(SlotId(0), first, second);
-    let reads = [
+    let reads = vec![in alloc;
         declares(0),
         declares(1),
         Stmt::Read(place(0)),
         Stmt::Read(place(1)),
-    ];
-    let mut body = list(alloc, reads)?;
-    body.append(list(alloc, [decide, returns(2)])?)?;
-    let funs = list(alloc, [fun(alloc, Items::new(alloc), body)])?;
+    ]?;
+    let mut body = list(reads)?;
+    body.append(list(vec![in alloc; decide, returns(2)]?)?)?;
+    let funs = list(vec![in alloc; fun(alloc, Items::new(alloc), body)]?)?;
     let less = bin(alloc, Bin::Lt, read(alloc, 0)?, read(alloc, 1)?)?;
-    let slots = list(alloc, [less, num(alloc, 1), num(alloc, 0)])?;
-    let vars = list(alloc, [var(alloc, Ty::Int), var(alloc, Ty::Int)])?;
+    let slots = list(vec![in alloc; less, num(alloc, 1), num(alloc, 0)]?)?;
+    let vars = list(vec![in alloc; var(alloc, Ty::Int), var(alloc, Ty::Int)]?)?;
     Ok(program(alloc, vars, funs, slots))
 }
 
@@ -162,146 +152,12 @@ fn a_run_stops_where_it_is_undefined(rt: HostRuntime) -> Result<(), AllocError> 
     Ok(())
 }
 
-/// The slots of `counting`.
-fn counting_slots(alloc: Global) -> Result<Items<Slot>, AllocError> {
-    let goes_on = bin(alloc, Bin::Le, read(alloc, 1)?, read(alloc, 0)?)?;
-    let sum = bin(alloc, Bin::Add, read(alloc, 2)?, read(alloc, 1)?)?;
-    let next = bin(alloc, Bin::Add, read(alloc, 1)?, Expr::Num(1))?;
-    let shown = slot(alloc, read(alloc, 2)?);
-    list(alloc, [num(alloc, 0), goes_on, sum, next, shown])
-}
-
-/// `int main() { int n; int i; int s; scanf("%d", &n); i = 0; s = 0; while (i <= n) { s = s + i; i = i + 1; } printf("%d", s); return 0; }`
-fn counting(alloc: Global) -> Result<Program, AllocError> {
-    let body = Stmt::Block(list(alloc, [sets(2, 2), sets(1, 3)])?);
-    let turns = Stmt::While(SlotId(1), Boxed::new(alloc, body)?);
-    let begins = [
-        declares(0),
-        declares(1),
-        declares(2),
-        Stmt::Read(place(0)),
-        sets(1, 0),
-        sets(2, 0),
-    ];
-    let mut body = list(alloc, begins)?;
-    body.append(list(alloc, [turns, prints(4), returns(0)])?)?;
-    let funs = list(alloc, [fun(alloc, Items::new(alloc), body)])?;
-    let vars = list(
-        alloc,
-        [
-            var(alloc, Ty::Int),
-            var(alloc, Ty::Int),
-            var(alloc, Ty::Int),
-        ],
-    )?;
-    Ok(program(alloc, vars, funs, counting_slots(alloc)?))
-}
-
-#[test]
-fn a_loop_takes_its_steps(rt: HostRuntime) -> Result<(), AllocError> {
-    let alloc = rt.alloc();
-    let program = counting(alloc)?;
-    let done = run(alloc, &program, &[3], 21)?;
-    assert!(rt; passes(&done, &test(alloc, &[3], &[6], 0)?));
-    assert_eq!(rt; done.used, 21);
-    assert!(rt; done.counts.as_slice() == [3, 5, 4, 4, 1].as_slice());
-    let done = run(alloc, &program, &[3], 20)?;
-    assert!(rt; is_out_of_steps(&done));
-    assert!(rt; printed(&done) == [6].as_slice());
-    assert_eq!(rt; done.used, 20);
-    Ok(())
-}
-
-/// `int main() { int i; for (i = 0; i < 4; i++) { if (i == 1) continue; printf("%d", i); } return 0; }`
-fn skipping(alloc: Global) -> Result<Program, AllocError> {
-    let skip = Stmt::If(SlotId(2), Boxed::new(alloc, Stmt::Continue)?, None);
-    let inside = Stmt::Block(list(alloc, [skip, prints(3)])?);
-    let first = list(alloc, [sets(0, 0)])?;
-    let next = Some(Boxed::new(alloc, Stmt::Bump(place(0), true))?);
-    let turns = Stmt::For(first, Some(SlotId(1)), next, Boxed::new(alloc, inside)?);
-    let body = list(alloc, [declares(0), turns, returns(0)])?;
-    let funs = list(alloc, [fun(alloc, Items::new(alloc), body)])?;
-    let less = bin(alloc, Bin::Lt, read(alloc, 0)?, Expr::Num(4))?;
-    let one = bin(alloc, Bin::Eq, read(alloc, 0)?, Expr::Num(1))?;
-    let slots = list(
-        alloc,
-        [num(alloc, 0), less, one, slot(alloc, read(alloc, 0)?)],
-    )?;
-    Ok(program(alloc, list(alloc, [var(alloc, Ty::Int)])?, funs, slots))
-}
-
-#[test]
-fn a_continue_goes_on_with_the_last_part(rt: HostRuntime) -> Result<(), AllocError> {
-    let alloc = rt.alloc();
-    let program = skipping(alloc)?;
-    let done = run(alloc, &program, &[], 100)?;
-    assert!(rt; passes(&done, &test(alloc, &[], &[0, 2, 3], 0)?));
-    assert_eq!(rt; done.used, 19);
-    Ok(())
-}
-
-/// `int f(int x) { if (x < 1) return 0; int y = f(x - 1); return y + x; }`, whose variables are 0 and 1.
-fn sums(alloc: Global) -> Result<Fun, AllocError> {
-    let stop = Stmt::If(SlotId(0), Boxed::new(alloc, returns(1))?, None);
-    let args = list(alloc, [Arg::Int(SlotId(2))])?;
-    let deeper = Stmt::Decl(VarId(1), Init::Value(Value::Call(FunId(1), args)));
-    let body = list(alloc, [stop, deeper, returns(3)])?;
-    Ok(fun(alloc, list(alloc, [VarId(0)])?, body))
-}
-
-/// `int a[3] = {5, 6}; .. int main() { int i; i = f(2); printf("%d", i); printf("%d", a[i - 1]); }`
-fn calling(alloc: Global) -> Result<Program, AllocError> {
-    let args = list(alloc, [Arg::Int(SlotId(4))])?;
-    let assign = Stmt::Assign(place(2), Value::Call(FunId(1), args));
-    let body = list(alloc, [declares(2), assign, prints(5), prints(6)])?;
-    let funs = list(alloc, [fun(alloc, Items::new(alloc), body), sums(alloc)?])?;
-    let below = bin(alloc, Bin::Lt, read(alloc, 0)?, Expr::Num(1))?;
-    let less = bin(alloc, Bin::Sub, read(alloc, 0)?, Expr::Num(1))?;
-    let more = bin(alloc, Bin::Add, read(alloc, 1)?, read(alloc, 0)?)?;
-    let mut slots = list(alloc, [below, num(alloc, 0), less, more, num(alloc, 2)])?;
-    slots.push(slot(alloc, read(alloc, 2)?))?;
-    slots.push(last_element(alloc)?)?;
-    let array = Ty::Array(Boxed::new(alloc, Ty::Int)?, 3);
-    let vars = [
-        var(alloc, Ty::Int),
-        var(alloc, Ty::Int),
-        var(alloc, Ty::Int),
-        var(alloc, array),
-    ];
-    let mut program = program(alloc, list(alloc, vars)?, funs, slots);
-    let numbers = Items::from_slice(alloc, &[5, 6])?;
-    program.globals.push((VarId(3), Init::List(numbers)))?;
-    Ok(program)
-}
-
-/// `a[i - 1]`
-fn last_element(alloc: Global) -> Result<Slot, AllocError> {
-    let one = Boxed::new(alloc, Expr::Num(1))?;
-    let index = Expr::Bin(Bin::Sub, Boxed::new(alloc, read(alloc, 2)?)?, one);
-    let from = Boxed::new(alloc, Pexpr::Decay(Boxed::new(alloc, place(3))?))?;
-    let at = Pexpr::Plus(from, Boxed::new(alloc, index)?);
-    let atom = Atom::Read(Lval::Deref(Boxed::new(alloc, at)?));
-    Ok(slot(alloc, Expr::Atom(Boxed::new(alloc, atom)?)))
-}
-
-#[test]
-fn calls_nest_and_main_returns_zero(rt: HostRuntime) -> Result<(), AllocError> {
-    let alloc = rt.alloc();
-    let program = calling(alloc)?;
-    let done = run(alloc, &program, &[], 100)?;
-    assert!(rt; passes(&done, &test(alloc, &[], &[3, 0], 0)?));
-    assert_eq!(rt; done.used, 15);
-    assert_eq!(rt; evaluations_of(&done, SlotId(0)), 3);
-    assert_eq!(rt; evaluations_of(&done, SlotId(9)), 0);
-    Ok(())
-}
-
 /// `int f() { f(); } int main() { f(); }`
 fn endless(alloc: Global) -> Result<Program, AllocError> {
-    let inner = list(alloc, [Stmt::Call(FunId(1), Items::new(alloc))])?;
-    let outer = list(alloc, [Stmt::Call(FunId(1), Items::new(alloc))])?;
+    let inner = list(vec![in alloc; Stmt::Call(FunId(1), Items::new(alloc))]?)?;
+    let outer = list(vec![in alloc; Stmt::Call(FunId(1), Items::new(alloc))]?)?;
     let main = fun(alloc, Items::new(alloc), outer);
-    let funs = list(alloc, [main, fun(alloc, Items::new(alloc), inner)])?;
+    let funs = list(vec![in alloc; main, fun(alloc, Items::new(alloc), inner)]?)?;
     Ok(program(alloc, Items::new(alloc), funs, Items::new(alloc)))
 }
 
