@@ -1,0 +1,9 @@
+//! Clause blocks of products of words.
+#![tactic(auto)]
+
+pub mod products;
+
+pub use products::prod;
+
+#[cfg(test)]
+mod tests;
