@@ -1,0 +1,9 @@
+use Rattle.std.proofs.Common.{◌≡◌, length}
+use Rattle.ax_sat.specs.Analysis.{Suffices}
+use Rattle.ax_sat.proofs.analysis.walk.Given as goal
+
+abbrev pub invariant-loop-index : goal.invariant-loop-index
+invariant-loop-index l = record {
+  size : length l.marks ≡ length l.initial.marks;
+  suffices : Suffices l.watch.clauses l.watch.trail l.marks;
+}

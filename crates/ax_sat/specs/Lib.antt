@@ -1,0 +1,4 @@
+pub mod Answer
+pub mod Base
+pub mod Search
+pub mod Analysis

@@ -1,0 +1,16 @@
+//! A search for a model of clauses that learns lines, and logs them as a proof.
+#![tactic(auto)]
+
+pub mod analysis;
+pub mod answer;
+pub mod base;
+pub mod descent;
+pub mod over;
+pub mod search;
+
+pub use answer::{Answer, Log};
+pub use base::{Base, solve};
+pub use over::{are_over, is_over};
+
+#[cfg(test)]
+mod tests;
