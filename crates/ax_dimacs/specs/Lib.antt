@@ -1,0 +1,3 @@
+pub mod Words
+pub mod Clauses
+pub mod Written

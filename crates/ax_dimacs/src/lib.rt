@@ -1,0 +1,11 @@
+//! Clause files: lists of clauses as text, in the profile of DIMACS that docs/FORMATS.md gives.
+#![tactic(auto)]
+
+mod read;
+#[cfg(test)]
+mod tests;
+mod words;
+mod write;
+
+pub use read::{CnfFault, MAX_VARS, read_cnf};
+pub use write::write_cnf;
