@@ -1,0 +1,14 @@
+pub mod Trees
+pub mod Terminals
+pub mod Operators
+pub mod Starts
+pub mod Expressions
+pub mod Declarations
+pub mod Statements
+pub mod Sources
+pub mod Reading
+pub mod ReadExpressions
+pub mod ReadDeclarations
+pub mod ReadStatements
+pub mod ReadSources
+pub mod Rows
