@@ -1,0 +1,12 @@
+//! A program with its flat code.
+#![tactic(auto)]
+
+mod flow;
+mod lowering;
+mod ops;
+mod places;
+mod statements;
+#[cfg(test)]
+mod tests;
+
+pub use flow::{Flow, lower};
