@@ -1,0 +1,4 @@
+pub mod Words
+pub mod Rights
+pub mod Lefts
+pub mod Laws

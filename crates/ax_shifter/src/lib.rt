@@ -1,0 +1,9 @@
+//! Clauses of shifts of words.
+#![tactic(auto)]
+
+pub mod shifts;
+
+pub use shifts::shift;
+
+#[cfg(test)]
+mod tests;
