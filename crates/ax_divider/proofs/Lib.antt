@@ -1,0 +1,4 @@
+pub mod TurnLaws
+pub mod DivisionLaws
+pub mod Steps
+pub mod Laws

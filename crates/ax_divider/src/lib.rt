@@ -1,0 +1,9 @@
+//! Clause blocks of quotients and remainders of words.
+#![tactic(auto)]
+
+pub mod quotients;
+
+pub use quotients::divide;
+
+#[cfg(test)]
+mod tests;
