@@ -1,6 +1,6 @@
 -- The five commands, as `clap` takes them.
-use Rattle.std.specs.Prelude.{◌≡◌, ◌≢◌, ℕ, List, [], ◌∷◌, Option, Some, None, true, codes, Result, Ok, Err}
-use Rattle.clap.specs.Words.{App, Rule, Text, fault_of, first_of, found_of, is_simple, is_simple_and_free, matches_of, new_app, new_rule, rows_of, with_rule}
+use Rattle.std.specs.Prelude.{◌≡◌, ◌≢◌, List, [], ◌∷◌, Some, true, codes, Result, Ok, Err}
+use Rattle.clap.specs.Words.{App, Rule, Text, fault_of, found_of, is_simple, is_simple_and_free, matches_of, new_app, new_rule, rows_of, with_rule}
 use Rattle.clap.specs.declared.builder.action.ArgAction.TheVariants.{Set}
 use Rattle.clap.specs.declared.parser.matches.ArgMatches.{ArgMatches}
 use Rattle.ax_words.specs.declared.order.WordFault.{WordFault}

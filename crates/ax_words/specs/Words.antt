@@ -1,11 +1,10 @@
 -- What the words of a command line say.
-use Rattle.std.specs.Prelude.{◌≡◌, ◌≢◌, ◌⊎◌, ◌++◌, ◌&&◌, ◌||◌, ℕ, Bool, true, false, List, [], ◌∷◌, Option, Some, None, IsSome, codes, is_some, option_map, string_bytes, String, Result, Ok, Err, if◌then◌else◌}
+use Rattle.std.specs.Prelude.{◌≡◌, ◌≢◌, ◌&&◌, ◌||◌, ℕ, Bool, true, false, List, [], ◌∷◌, Option, Some, None, IsSome, codes, is_some, option_map, string_bytes, Result, Ok, Err, if◌then◌else◌}
 use Rattle.std.specs.Str.{bytes_eq}
 use Rattle.clap.specs.Words.{App, Text, fault_of, first_of, matches_of}
-use Rattle.ax_prog.specs.declared.Bounds.{Bounds}
 use Rattle.ax_prog.specs.declared.Sets.{Sets}
 use Rattle.ax_words.specs.Commands.{check_app, gen_app, rank_app, repair_app, run_app}
-use Rattle.ax_words.specs.Lists.{no_sets, picks_of, sets_of}
+use Rattle.ax_words.specs.Lists.{picks_of, sets_of}
 use Rattle.ax_words.specs.Numbers.{Field, first_of_kind, is_misread, is_off_range, value_of}
 use Rattle.ax_words.specs.declared.order.Choice.{Choice}
 use Rattle.ax_words.specs.declared.order.Choice.TheVariants.{Pick, Top}

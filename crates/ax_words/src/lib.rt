@@ -2,6 +2,7 @@
 #![tactic(auto)]
 
 mod commands;
+mod laws;
 mod lists;
 mod numbers;
 mod order;
@@ -10,5 +11,6 @@ mod repair;
 #[cfg(test)]
 mod tests;
 
+pub use laws::{one_order, orders_have_no_fault};
 pub use order::{Choice, Order, RepairOrder, WordFault};
 pub use read::read_words;
