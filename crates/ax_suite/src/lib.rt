@@ -1,11 +1,13 @@
 //! Test suites, read from JSON.
 #![tactic(auto)]
 
+mod laws;
 mod numbers;
 mod shape;
 mod suite;
 mod test;
 
+pub use laws::{one_suite, suites_have_no_fault};
 pub use suite::read_suite;
 use thiserror::Error;
 
