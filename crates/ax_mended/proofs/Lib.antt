@@ -1,3 +1,5 @@
 mod Changing
 mod Passing
+mod Staying
+mod Unchanged
 mod Writable

@@ -1,16 +1,18 @@
 -- Repaired sources, read back.
-use Rattle.std.specs.Prelude.{◌≡◌, ℕ, false, List}
+use Rattle.std.specs.Prelude.{◌≡◌, ◌↔◌, ℕ, false, List}
 use Rattle.std.specs.List.{All}
 use Rattle.ax_prog.specs.declared.Bounds.{Bounds}
+use Rattle.ax_prog.specs.declared.Expr.{Expr}
 use Rattle.ax_prog.specs.declared.Program.{Program}
 use Rattle.ax_prog.specs.declared.Sets.{Sets}
 use Rattle.ax_prog.specs.declared.SlotId.{SlotId}
 use Rattle.ax_prog.specs.declared.Test.{Test}
 use Rattle.ax_prog.specs.Same.{SameProgram}
 use Rattle.ax_front.specs.Texts.{IsProgramOfText}
+use Rattle.ax_region.specs.Space.{Changes}
 use Rattle.ax_space.specs.declared.Patch.{Patch}
 use Rattle.ax_space.specs.Chosen.{AreChosen, space_of}
-use Rattle.ax_space.specs.Patches.{IsPatch, patched}
+use Rattle.ax_space.specs.Patches.{IsPatch, PatchCost, patched}
 use Rattle.ax_least.specs.Least.{PassesWithin, IsRepair}
 use Rattle.ax_back.specs.Changes.{IsFree, IsWritable}
 use Rattle.ax_repair.specs.Written.{written}
@@ -64,3 +66,13 @@ ComparisonsAreWritable =
     (source : List ℕ) (program : Program) (ids : List SlotId) (sets : Sets) (grow : ℕ) (patch : Patch) →
     IsProgramOfText source program → AreChosen program ids → AreComparisons sets → IsPatch (space_of program ids sets grow) patch →
     All IsWritable patch.trees
+
+-- exactly the old tree has no changed node
+abbrev pub UnchangedIsSame : Type 0
+UnchangedIsSame = (old new : Expr) → Changes old new 0 ↔ (new ≡ old)
+
+-- a source in which a patch of cost 0 is written is the given one
+abbrev pub StaysAtCost0 : Type 0
+StaysAtCost0 =
+    (source : List ℕ) (program : Program) (ids : List SlotId) (sets : Sets) (grow : ℕ) (patch : Patch) →
+    AreChosen program ids → PatchCost (space_of program ids sets grow) patch 0 → written source program ids patch.trees ≡ source

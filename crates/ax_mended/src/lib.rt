@@ -1,12 +1,13 @@
 //! Repaired sources, read back: the source that a repair is written in is the text of a program that passes every
-//! test.
+//! test, and the given source where the repair costs nothing.
 #![tactic(auto)]
 
-ghost use Rattle.ax_mended.specs.Reading.{WrittenReadsBack, RepairedPasses, ComparisonsAreWritable};
+ghost use Rattle.ax_mended.specs.Reading.{WrittenReadsBack, RepairedPasses, ComparisonsAreWritable, UnchangedIsSame, StaysAtCost0};
 
 use ax_alike::same_runs;
 use ax_back::{reads_back, slots_are_writable};
 use ax_reads::slots_fit;
+use ax_repair::own_trees_stay;
 
 /// A source in which a patch is written reads back as the patched program (a law).
 pub fn written_reads_back()
@@ -29,4 +30,16 @@ pub fn comparisons_are_writable()
     ensures { ComparisonsAreWritable }
 {
     slots_are_writable();
+}
+
+/// A tree has no changed node exactly where it is the old tree (a law).
+pub fn unchanged_is_same()
+    ensures { UnchangedIsSame }
+{}
+
+/// A source in which a patch of cost 0 is written is the given source, byte for byte (a law).
+pub fn stays_at_cost_0()
+    ensures { StaysAtCost0 }
+{
+    own_trees_stay();
 }
