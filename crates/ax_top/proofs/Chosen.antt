@@ -17,12 +17,13 @@ use Rattle.ax_prog.specs.declared.Test.{Test}
 use Rattle.ax_front.specs.Texts.{IsProgramOfText}
 use Rattle.ax_space.specs.declared.Patch.{Patch}
 use Rattle.ax_space.specs.Chosen.{AreChosen, space_of}
+use Rattle.ax_space.specs.Patches.{PatchCost}
 use Rattle.ax_least.specs.Least.{IsRepair}
 use Rattle.ax_repair.specs.Outcomes.{IsRepaired}
-use Rattle.ax_repair.specs.Written.{is_changed}
+use Rattle.ax_repair.specs.Written.{is_changed, written}
 use Rattle.ax_repair.specs.declared.Repaired.{Repaired}
 use Rattle.ax_back.specs.Changes.{IsFree}
-use Rattle.ax_mended.specs.Reading.{AreComparisons, ComparisonsAreWritable, PassesBack, RepairedPasses}
+use Rattle.ax_mended.specs.Reading.{AreComparisons, ComparisonsAreWritable, PassesBack, RepairedPasses, StaysAtCost0}
 use Rattle.ax_outside.specs.Seen.{Seen}
 use Rattle.ax_words.specs.declared.order.RepairOrder.{RepairOrder}
 use Rattle.ax_top.specs.declared.answer.Answer.{Answer}
@@ -144,18 +145,27 @@ passes-back writable law source program tests o picked patch read is repair =
     })
     repair
 
+-- at cost 0 what is written is the source
+stays : StaysAtCost0 → (source : List ℕ) (program : Program) (o : RepairOrder) (picked : Picked) (patch : Patch) (cost : ℕ)
+    → IsPicked program o picked → PatchCost (space_of program (picked.slot ∷ []) o.sets o.bounds.grow) patch cost
+    → cost ≡ 0 → written source program (picked.slot ∷ []) patch.trees ≡ source
+stays law source program o picked patch cost is costs free =
+    law source program (picked.slot ∷ []) o.sets o.bounds.grow patch (picked-chosen program o picked is)
+    (subst (λ (n : ℕ). PatchCost (space_of program (picked.slot ∷ []) o.sets o.bounds.grow) patch n) free costs)
+
 -- from the outcome of the search to the answer
-pub mended : ComparisonsAreWritable → RepairedPasses → (source : List ℕ) (program : Program) (tests : List Test) (o : RepairOrder) (picked : Picked) (it : Repaired) (report : List ℕ)
+pub mended : ComparisonsAreWritable → RepairedPasses → StaysAtCost0 → (source : List ℕ) (program : Program) (tests : List Test) (o : RepairOrder) (picked : Picked) (it : Repaired) (report : List ℕ)
     → IsProgramOfText source program → IsPicked program o picked
     → IsRepaired program source tests o.bounds (space_of program (picked.slot ∷ []) o.sets o.bounds.grow) it
     → report ≡ repaired_report source program (picked.number ∷ []) (picked.slot ∷ []) (it.patch).trees it.cost
     → IsMended o source program tests (picked.slot ∷ []) it.source report
-mended writable law source program tests o picked it report read is found said = record {
+mended writable law unchanged source program tests o picked it report read is found said = record {
   patch = it.patch;
   cost = it.cost;
   least = found.least;
   is_text = found.text;
   back = passes-back writable law source program tests o picked it.patch read is (found.least).repair;
+  unchanged = λ free. found.text ∙ stays unchanged source program o picked it.patch it.cost is (found.least).costs free;
   is_report = said ∙ ap (λ (numbers : List ℕ). repaired_report source program numbers (picked.slot ∷ []) (it.patch).trees it.cost) (sym is.number);
 }
 

@@ -49,6 +49,7 @@ module _ (old new : Seen) (titles words : List (List ℕ)) (status : ℕ) where
     least = a.answered.least;
     holds = subst (λ t. Holds (old.kept (string_bytes o.out)) t (new.kept (string_bytes o.out))) a.answered.is_text holds;
     back = a.answered.back;
+    unchanged = λ free. sym a.answered.is_text ∙ a.answered.unchanged free;
     reports = subst (λ t. Adds old.printed t new.printed) a.answered.is_report adds;
   }
 

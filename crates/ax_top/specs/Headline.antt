@@ -18,7 +18,7 @@ use Rattle.ax_top.specs.Repairs.{IsSought, no_repair_report, repaired_report}
 -- The words are an order to repair with which nothing is wrong. A patch of its space has the least cost of those with
 -- whose programs every test passes within the bounds. OUT holds the source with the text of that patch. Read back, it is the
 -- patched program, spans aside, and passes every test within the bounds. The report names the cost and the changed
--- expressions.
+-- expressions. At cost 0 that text is the source, byte for byte.
 pub record WroteLeast (old new : Seen) (titles words : List (List ℕ)) : Type 0 where
   pub order : RepairOrder
   pub source : List ℕ
@@ -32,6 +32,7 @@ pub record WroteLeast (old new : Seen) (titles words : List (List ℕ)) : Type 0
   pub least : IsLeastRepair program suite.tests order.bounds (space_for program order chosen) patch cost
   pub holds : Holds (old.kept (string_bytes order.out)) (written source program chosen patch.trees) (new.kept (string_bytes order.out))
   pub back : PassesBack source program suite.tests order.bounds chosen patch
+  pub unchanged : cost ≡ 0 → written source program chosen patch.trees ≡ source
   pub reports : Adds old.printed (repaired_report source program (numbers_of order.choice) chosen patch.trees cost) new.printed
 
 -- The words are such an order, and there is no repair.

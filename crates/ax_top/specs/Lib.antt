@@ -8,3 +8,4 @@ pub mod Delivery
 pub mod Reports
 pub mod Causes
 pub mod Headline
+pub mod Complete

@@ -50,14 +50,15 @@ repaired_report source program numbers ids trees cost = cost_line cost ++ change
 
 -- ---- answers
 
--- a least repair of the program, the source with its text, which reads back as a program that passes every test, and its
--- report
+-- a least repair of the program, the source with its text, which reads back as a program that passes every test and at
+-- cost 0 is the source itself, and its report
 pub record IsMended (o : RepairOrder) (source : List ℕ) (program : Program) (tests : List Test) (chosen : List SlotId) (text report : List ℕ) : Type 0 where
   pub patch : Patch
   pub cost : ℕ
   pub least : IsLeastRepair program tests o.bounds (space_for program o chosen) patch cost
   pub is_text : text ≡ written source program chosen patch.trees
   pub back : PassesBack source program tests o.bounds chosen patch
+  pub unchanged : cost ≡ 0 → text ≡ source
   pub is_report : report ≡ repaired_report source program (numbers_of o.choice) chosen patch.trees cost
 
 abbrev pub IsAnswer : RepairOrder → List ℕ → Program → List Test → List SlotId → Answer → Type 0

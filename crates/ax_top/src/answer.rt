@@ -8,7 +8,7 @@ ghost use Rattle.ax_top.specs.Repairs.{IsAnswer, Searched, change_line, change_l
 
 use crate::built::{Picked, picked_of};
 use crate::files::Stop;
-use ax_mended::{comparisons_are_writable, repaired_passes};
+use ax_mended::{comparisons_are_writable, repaired_passes, stays_at_cost_0};
 use ax_print::expr_text;
 use ax_prog::same::same_expr;
 use ax_prog::{Expr, Program, SlotId, Suite};
@@ -124,9 +124,10 @@ fn answer_to(
     requires grow { order.now.bounds.grow ≤ 20 }
     ensures { IfOk result (IsAnswer order.now source.now program.now suite.now.tests (picked.slot ∷ [])) }
 {
-    // what is written reads back
+    // what is written reads back, and is the source where nothing changes
     comparisons_are_writable();
     repaired_passes();
+    stays_at_cost_0();
     let chosen = [picked.slot];
     match ax_repair::repair(
         alloc,

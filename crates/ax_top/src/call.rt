@@ -1,6 +1,7 @@
 //! The top call.
 ghost use Rattle.std.specs.Prelude.{map, string_bytes};
 ghost use Rattle.ax_top.specs.Causes.{Does, Keeps, OrderStopped, WordsRefused};
+ghost use Rattle.ax_top.specs.Complete.{Complete};
 ghost use Rattle.ax_top.specs.Headline.{Headline};
 
 use crate::delivery::give;
@@ -71,6 +72,7 @@ pub fn angelix<S: Shelf>(
 ) -> u8
     ensures does { Does (S.seen shelf.old) (S.seen shelf.new) (map (λ r. title r) rankers.items) (map string_bytes words.items) result }
     ensures headline { Headline (S.seen shelf.old) (S.seen shelf.new) (map (λ r. title r) rankers.items) (map string_bytes words.items) result }
+    ensures complete { Complete (S.seen shelf.old) (S.seen shelf.new) (map string_bytes words.items) result }
     ensures keeps { Keeps (S.seen shelf.old) (S.seen shelf.new) (map string_bytes words.items) }
 {
     match read_words(alloc, &words) {

@@ -1,3 +1,4 @@
+use Rattle.ax_top.proofs.Completing.{complete}
 use Rattle.ax_top.proofs.Grown.{grows-little}
 use Rattle.ax_top.proofs.Promises.{headline, keeps}
 use Rattle.ax_top.proofs.Rows.{answered-does, refused-does, stopped-does}
@@ -14,8 +15,14 @@ returns-in-Err-result_of-clause-does g c =
     c.in-Ok.order c.in-Err-result_of.stop (g.S.Shelf.seen c.result_of.new.shelf) c.in-Ok.ensures c.in-Err-result_of.ensures.ends
     c.in-Err-result_of.ensures.same c.in-Err-result_of.ensures.counts c.refuse_order.ensures
 
+pub returns-in-Err-clause-complete : goal.returns-in-Err-clause-complete
+returns-in-Err-clause-complete g c = complete _ _ _ _ _ (returns-in-Err-clause-does g c)
+
 pub returns-in-Err-result_of-clause-headline : goal.returns-in-Err-result_of-clause-headline
 returns-in-Err-result_of-clause-headline g c = headline _ _ _ _ _ (returns-in-Err-result_of-clause-does g c)
+
+pub returns-in-Err-result_of-clause-complete : goal.returns-in-Err-result_of-clause-complete
+returns-in-Err-result_of-clause-complete g c = complete _ _ _ _ _ (returns-in-Err-result_of-clause-does g c)
 
 pub returns-clause-does : goal.returns-clause-does
 returns-clause-does g c =
@@ -26,6 +33,9 @@ returns-clause-does g c =
 
 pub returns-clause-headline : goal.returns-clause-headline
 returns-clause-headline g c = headline _ _ _ _ _ (returns-clause-does g c)
+
+pub returns-clause-complete : goal.returns-clause-complete
+returns-clause-complete g c = complete _ _ _ _ _ (returns-clause-does g c)
 
 pub returns-clause-keeps : goal.returns-clause-keeps
 returns-clause-keeps g c = keeps _ _ _ _ _ (returns-clause-does g c)

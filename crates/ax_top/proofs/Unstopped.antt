@@ -1,0 +1,176 @@
+-- What stops an order that is asked: want of memory, or a read that failed.
+use Rattle.std.proofs.Common.{◌≡◌, ◌∙◌, ◌≤◌, ◌<◌, ◌-◌, ℕ, Bool, true, false, List, [], ◌∷◌, length, Some, None, ap, refl, sym, subst, inl, inr, string_bytes, arith}
+use Rattle.std.specs.Prelude.{Option, Err, if◌then◌else◌, nat_lt, option_and_then, option_map}
+use Rattle.std.proofs.lemmas.Option.{none-some, slice_get_within}
+use Rattle.ax_prog.specs.declared.Program.{Program}
+use Rattle.ax_prog.specs.declared.Sets.{Sets}
+use Rattle.ax_prog.specs.declared.SlotId.{SlotId}
+use Rattle.ax_prog.specs.declared.Suite.{Suite}
+use Rattle.ax_prog.specs.Candidates.{candidates_of}
+use Rattle.ax_front.specs.Texts.{IsProgramOfText, KeepsLimits}
+use Rattle.ax_front.specs.declared.SourceFault.{SourceFault}
+use Rattle.ax_front.specs.declared.SourceFault.TheVariants as front
+use Rattle.ax_suite.specs.Suites.{Reads}
+use Rattle.ax_suite.proofs.Single.{suites_have_no_fault}
+use Rattle.ax_outside.specs.Seen.{NoLess, OnKept, Rose, Seen, Told}
+use Rattle.ax_words.specs.Laws.{SameRepair}
+use Rattle.ax_words.specs.declared.order.Choice.{Choice}
+use Rattle.ax_words.specs.declared.order.Choice.TheVariants.{Pick, Top}
+use Rattle.ax_words.specs.declared.order.RepairOrder.{RepairOrder}
+use Rattle.ax_top.specs.declared.files.File.TheVariants as file
+use Rattle.ax_top.specs.declared.files.Stop.{Stop}
+use Rattle.ax_top.specs.declared.files.Stop.TheVariants as stop
+use Rattle.ax_top.specs.Built.{are_comparisons, candidate_at, only, small_slot}
+use Rattle.ax_top.specs.Complete.{IsAsked, IsCutOff, fails_to_read, wants_memory}
+use Rattle.ax_top.specs.Files.{IsLong, limit_of}
+use Rattle.ax_top.specs.Judging.{HasFault, Refuses, StopsAtFiles, StopsAtSource, StopsAtTests, at_source, at_tests}
+use Rattle.ax_top.specs.Orders.{LacksRanker, PicksJudged, RepairRefused, at_files, at_picks, at_ranker, candidate_count, first_beyond, numbers_of}
+use Rattle.ax_top.specs.Repairs.{RepairStops, memory, refused, unbuilt}
+use Rattle.ax_top.specs.Reports.{stop_status}
+use Rattle.ax_top.proofs.Asked.{built-there, chosen-by, same-numbers, same-program, source-told, tests-told}
+
+-- ---- picked numbers
+
+has-candidate : (program : Program) (found : Option SlotId) (chosen : List SlotId)
+    → option_map (λ (id : SlotId). id ∷ []) (option_and_then (small_slot program) found) ≡ Some chosen → (id : SlotId) × (found ≡ Some id)
+has-candidate program None chosen h = absurd (none-some chosen h)
+has-candidate program (Some id) chosen h = (id, refl)
+
+-- one number is picked, that of a candidate
+abbrev PicksOne : Program → List ℕ → Type 0
+PicksOne program numbers = (n : ℕ) × (numbers ≡ n ∷ []) × (id : SlotId) × (candidate_at program n ≡ Some id)
+
+by-sets : (program : Program) (b : Bool) (numbers : List ℕ) (chosen : List SlotId)
+    → option_map (λ (id : SlotId). id ∷ []) (if b then option_and_then (λ number. option_and_then (small_slot program) (candidate_at program number)) (only numbers) else None) ≡ Some chosen
+    → PicksOne program numbers
+by-sets program false numbers chosen h = absurd (none-some chosen h)
+by-sets program true [] chosen h = absurd (none-some chosen h)
+by-sets program true (n ∷ m ∷ ns) chosen h = absurd (none-some chosen h)
+by-sets program true (n ∷ []) chosen h =
+    let found = has-candidate program (candidate_at program n) chosen h in
+    (n, refl, found.0, found.1)
+
+picks-one : (program : Program) (sets : Sets) (numbers : List ℕ) (chosen : List SlotId) → chosen-by program sets numbers ≡ Some chosen → PicksOne program numbers
+picks-one program sets numbers chosen h = by-sets program (are_comparisons sets) numbers chosen h
+
+not-beyond : (count n : ℕ) → n - 1 < count → nat_lt count n ≡ false
+not-beyond count n h = grind arith
+
+none-beyond : (program : Program) (numbers : List ℕ) → PicksOne program numbers → first_beyond (candidate_count program) numbers ≡ None
+none-beyond program numbers one =
+    let within : one.0 - 1 < candidate_count program = slice_get_within (candidates_of program) (one.0 - 1) one.2 one.3 in
+    rw (one.1, not-beyond (candidate_count program) one.0 within) refl
+
+has-ranker : (titles : List (List ℕ)) (choice : Choice) (n : ℕ) → numbers_of choice ≡ n ∷ [] → LacksRanker titles choice → ⊥
+has-ranker titles (Top count formula) n e h = absurd (cc)
+has-ranker titles (Pick numbers) n e h = h
+
+-- ---- faults
+
+unfaulted : (bytes : List ℕ) (program : Program) (fault : SourceFault) → Refuses fault → HasFault bytes fault → KeepsLimits bytes → IsProgramOfText bytes program → ⊥
+unfaulted bytes program front.Memory r h keeps is = r
+unfaulted bytes program front.NotBuilt r h keeps is = r
+unfaulted bytes program (front.Lex fault) r h keeps is = h.none keeps program is
+unfaulted bytes program (front.Parse fault) r h keeps is = h.none keeps program is
+
+not-long : (n most : ℕ) → n ≤ most → most < n → ⊥
+not-long n most short long = omega arith
+
+-- ---- stops
+
+module _ (old new : Seen) (words : List (List ℕ)) (o : RepairOrder) (program : Program) (suite : Suite) (chosen : List SlotId)
+    (asked : IsAsked old words o program suite chosen) (it : RepairOrder) (same : SameRepair it o) where
+  abbrev CutOff : Stop → Type 0
+  CutOff why = IsCutOff old new o (stop_status why)
+
+  told-source : old.kept (string_bytes it.source) ≡ Some (Some asked.source)
+  told-source = source-told old words o program suite chosen asked it same
+
+  told-tests : old.kept (string_bytes it.tests) ≡ Some (Some asked.tests)
+  told-tests = tests-told old words o program suite chosen asked it same
+
+  by-source : (why : Stop) → StopsAtSource old new (string_bytes it.source) why → CutOff why
+  by-source stop.Memory h = wants_memory refl
+  by-source (stop.ReadFailed file.Source) h = fails_to_read refl (inl (subst (λ (name : List ℕ). Rose (old.reads name) (new.reads name)) same.source h))
+  by-source (stop.ReadFailed file.Tests) h = absurd h
+  by-source (stop.ReadFailed file.Cert) h = absurd h
+  by-source (stop.TooLong file.Source) h =
+      absurd (not-long (length asked.source) (limit_of file.Source) asked.source_short (subst (λ (t : Told). IsLong t file.Source) told-source h))
+  by-source (stop.TooLong file.Tests) h = absurd h
+  by-source (stop.TooLong file.Cert) h = absurd h
+  by-source (stop.Source fault) h =
+      let here = subst (λ (t : Told). OnKept t (λ source. (length source ≤ limit_of file.Source) × HasFault source fault)) told-source h.1 in
+      absurd (unfaulted asked.source program fault h.0 here.1 asked.limits asked.spelled)
+  by-source stop.NotBuilt h =
+      let here = subst (λ (t : Told). OnKept t (λ source. (length source ≤ limit_of file.Source) × HasFault source front.NotBuilt)) told-source h in
+      absurd (here.1.none asked.limits program asked.spelled)
+  by-source (stop.Suite fault) h = absurd h
+  by-source stop.NoRanker h = absurd h
+  by-source (stop.NoCandidate picked count) h = absurd h
+
+  by-tests : (why : Stop) → StopsAtTests old new (string_bytes it.tests) why → CutOff why
+  by-tests stop.Memory h = wants_memory refl
+  by-tests (stop.ReadFailed file.Tests) h = fails_to_read refl (inr (subst (λ (name : List ℕ). Rose (old.reads name) (new.reads name)) same.tests h))
+  by-tests (stop.ReadFailed file.Source) h = absurd h
+  by-tests (stop.ReadFailed file.Cert) h = absurd h
+  by-tests (stop.TooLong file.Tests) h =
+      absurd (not-long (length asked.tests) (limit_of file.Tests) asked.tests_short (subst (λ (t : Told). IsLong t file.Tests) told-tests h))
+  by-tests (stop.TooLong file.Source) h = absurd h
+  by-tests (stop.TooLong file.Cert) h = absurd h
+  by-tests (stop.Suite fault) h =
+      let here = subst (λ (t : Told). OnKept t (λ tests. (length tests ≤ limit_of file.Tests) × Reads tests (Err fault))) told-tests h.1 in
+      absurd (h.0 (suites_have_no_fault asked.tests suite.tests fault asked.tested here.1))
+  by-tests (stop.Source fault) h = absurd h
+  by-tests stop.NotBuilt h = absurd h
+  by-tests stop.NoRanker h = absurd h
+  by-tests (stop.NoCandidate picked count) h = absurd h
+
+  by-files : (why : Stop) → StopsAtFiles old new (string_bytes it.source) (string_bytes it.tests) why → CutOff why
+  by-files why (at_source h) = by-source why h
+  by-files why (at_tests fine h) = by-tests why h
+
+  picks-here : PicksOne program (numbers_of o.choice)
+  picks-here = picks-one program o.sets (numbers_of o.choice) chosen asked.built
+
+  by-picks : (why : Stop) → PicksJudged (numbers_of o.choice) program (Err why) → CutOff why
+  by-picks stop.Memory h = wants_memory refl
+  by-picks (stop.NoCandidate picked count) h =
+      absurd (none-some picked (sym (none-beyond program (numbers_of o.choice) picks-here)
+      ∙ sym (ap (λ (n : ℕ). first_beyond n (numbers_of o.choice)) h.0) ∙ h.1))
+  by-picks stop.NoRanker h = absurd h
+  by-picks (stop.ReadFailed which) h = absurd h
+  by-picks (stop.TooLong which) h = absurd h
+  by-picks (stop.Source fault) h = absurd h
+  by-picks (stop.Suite fault) h = absurd h
+  by-picks stop.NotBuilt h = absurd h
+
+  moved-picks : (p : Program) (numbers : List ℕ) (why : Stop) → p ≡ program → numbers ≡ numbers_of o.choice
+      → PicksJudged numbers p (Err why) → PicksJudged (numbers_of o.choice) program (Err why)
+  moved-picks p numbers why e n h =
+      subst (λ (ns : List ℕ). PicksJudged ns program (Err why)) n (subst (λ (x : Program). PicksJudged numbers x (Err why)) e h)
+
+  by-refusal : (titles : List (List ℕ)) (why : Stop) → RepairRefused old new titles it why → CutOff why
+  by-refusal titles why (at_ranker lacks e) =
+      absurd (has-ranker titles it.choice picks-here.0 (same-numbers it.choice o.choice same.choice ∙ picks-here.1) lacks)
+  by-refusal titles why (at_files has h) = by-files why h
+  by-refusal titles why (at_picks has bytes p s fine h) =
+      by-picks why (moved-picks p (numbers_of it.choice) why (same-program old words o program suite chosen asked it same bytes p fine.spelled)
+      (same-numbers it.choice o.choice same.choice) h)
+
+  pub cut-off : (titles : List (List ℕ)) (why : Stop) → RepairStops old new titles it why → CutOff why
+  cut-off titles why (refused h) = by-refusal titles why h
+  cut-off titles why (unbuilt bytes p s fine none e) =
+      let there = built-there old words o program suite chosen asked it same p
+      (same-program old words o program suite chosen asked it same bytes p fine.files.spelled) in
+      absurd (none-some chosen (sym none ∙ there))
+  cut-off titles why (memory e) = wants_memory (ap stop_status e)
+
+-- ---- after more calls
+
+risen : (before mid now : ℕ) → Rose before mid → mid ≤ now → Rose before now
+risen before mid now rose less = omega arith
+
+pub cut-off-later : (old mid new : Seen) (o : RepairOrder) (status : ℕ) → NoLess mid new → IsCutOff old mid o status → IsCutOff old new o status
+cut-off-later old mid new o status less (wants_memory e) = wants_memory e
+cut-off-later old mid new o status less (fails_to_read e (inl rose)) = fails_to_read e (inl (risen _ _ _ rose (less.reads (string_bytes o.source))))
+cut-off-later old mid new o status less (fails_to_read e (inr rose)) = fails_to_read e (inr (risen _ _ _ rose (less.reads (string_bytes o.tests))))
