@@ -1,6 +1,9 @@
 //! The program: the trusted edge around the top call, over the files and the output of the system.
 #![tactic(auto)]
 
+ghost use Rattle.std.specs.Prelude.{◌≡◌, ◌⊎◌, IfErr};
+ghost use Rattle.std_io.specs.declared.io.kind.ErrorKind.TheVariants.{OutOfMemory};
+
 use ax_outside::HostShelf;
 use ax_top::angelix;
 use std::alloc::Global;
@@ -12,17 +15,24 @@ const NO_WORDS: u8 = 14;
 /// The status where memory for the words can't be had.
 const NO_MEMORY: u8 = 10;
 
+/// The status that stands for the want of the system's words.
+fn status_of(kind: io::ErrorKind) -> u8
+    ensures memory { kind ≡ OutOfMemory → result ≡ 10 }
+    ensures words { (kind ≡ OutOfMemory → ⊥) → result ≡ 14 }
+{
+    match kind {
+        io::ErrorKind::OutOfMemory => NO_MEMORY,
+        _ => NO_WORDS,
+    }
+}
+
 // The words after the program's name, or the status that stands for their want.
-fn words(rt: &HostRuntime, alloc: Global) -> Result<Vec<String>, u8> {
+fn words(rt: &HostRuntime, alloc: Global) -> Result<Vec<String>, u8>
+    ensures status { IfErr result (λ status. (status ≡ 10) ⊎ (status ≡ 14)) }
+{
     let args = match std::env::args(rt) {
         Ok(args) => args,
-        Err(error) => {
-            return Err(if error.kind() == io::ErrorKind::OutOfMemory {
-                NO_MEMORY
-            } else {
-                NO_WORDS
-            });
-        }
+        Err(error) => return Err(status_of(error.kind())),
     };
     let mut words = Vec::new(alloc);
     for word in args.skip(1) {
