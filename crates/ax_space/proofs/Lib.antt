@@ -5,3 +5,5 @@ pub mod Listing
 pub mod Costs
 pub mod Patching
 pub mod Rising
+pub mod Walking
+pub mod Places

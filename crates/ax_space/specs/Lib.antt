@@ -6,3 +6,5 @@ pub mod Rows
 pub mod Labels
 pub mod Sums
 pub mod Fitting
+pub mod Positions
+pub mod Walks

@@ -54,7 +54,7 @@ pub fn allowed_labels(
     Ok(all)
 }
 
-fn chosen_operators(alloc: Global, sets: &Sets) -> Result<Items<Label>, AllocError>
+pub fn chosen_operators(alloc: Global, sets: &Sets) -> Result<Items<Label>, AllocError>
     ensures { IfOk result (λ it. it ≡ operator_labels sets.now) }
 {
     let all = chosen_among(alloc, sets, &OPERATORS)?;
@@ -129,7 +129,7 @@ fn chosen_atoms(alloc: Global, slot: &Slot, sets: &Sets) -> Result<Items<Label>,
     Ok(Items::new(alloc))
 }
 
-fn atom_labels(alloc: Global, atoms: &[Atom]) -> Result<Items<Label>, AllocError>
+pub fn atom_labels(alloc: Global, atoms: &[Atom]) -> Result<Items<Label>, AllocError>
     ensures { IfOk result (λ it. it ≡ map (λ a. Label.Atom a) atoms.now) }
 {
     let mut all = Items::new(alloc);

@@ -5,6 +5,7 @@
 
 ghost use Rattle.std.specs.Prelude.{◌≡◌, ℕ, ◌≤◌, ◌<◌, false, length, slice_get, Some, IfOk};
 ghost use Rattle.ax_space.specs.Chosen.{AreChosen, IsSpaceOf, SlotsFit, space_of};
+ghost use Rattle.ax_space.specs.Positions.{ArePositionsOf};
 ghost use Rattle.ax_space.specs.Patches.{IsPatch, PatchCost, IsPatchesOfCost, patched};
 
 mod choosing;
@@ -12,13 +13,17 @@ mod chosen;
 mod labels;
 pub mod laws;
 mod patched;
+mod positions;
 mod rows;
 mod sums;
+mod words;
 
 use ax_prog::{Bin, Expr, Program, Sets, Slot, SlotId, Un};
+use ax_region::Label;
 pub use choosing::are_chosen;
 use chosen::chosen_slots;
 use patched::put_trees;
+use positions::slot_positions;
 use rows::{Within, patches, rows};
 use sqlite_items::Items;
 use std::alloc::{AllocError, Global};
@@ -29,6 +34,22 @@ use sums::{room, sum_of_changes};
 #[derive(Debug, Drop)]
 pub struct Patch {
     pub trees: Items<Expr>,
+}
+
+/// What a position may be: one label, or any number from 0 on, its `Const`.
+#[derive(Debug, Drop)]
+pub enum Mark {
+    Label(Label),
+    Const,
+}
+
+/// A position of a chosen expression's space: a word over the numbers of operands, from 1. `old` says that the old
+/// tree has a node there, whose label is then the first.
+#[derive(Debug, Drop)]
+pub struct Position {
+    pub word: Items<u8>,
+    pub labels: Items<Mark>,
+    pub old: bool,
 }
 
 /// A tree for each of some slots, with the cost of all.
@@ -110,6 +131,18 @@ impl Space {
         ensures { slice_get self.now.slots chosen ≡ Some result.now }
     {
         &self.slots.as_slice()[chosen]
+    }
+
+    /// The positions of the chosen expression of that number, from 0: those of its tree, each extended by words over 1
+    /// and 2 of at most as many letters as the growth, by length and then by digits, none twice. Each has its labels
+    /// in order, none twice: the old one, then those of the chosen sets whose operands have positions.
+    pub fn positions(&self, alloc: Global, chosen: usize) -> Result<Items<Position>, AllocError>
+        requires { chosen < length self.now.ids }
+        ensures { IfOk result (ArePositionsOf self.now chosen) }
+    {
+        let slot = self.slot(chosen);
+        let found = slot_positions(alloc, slot, &self.sets, self.grow)?;
+        Ok(found)
     }
 
     /// A number that no patch costs more than.

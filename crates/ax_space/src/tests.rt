@@ -4,9 +4,10 @@ ghost use Rattle.std.specs.List.{All};
 ghost use Rattle.ax_space.specs.Chosen.{IsSpaceOf, SlotsFit};
 ghost use Rattle.ax_space.specs.Patches.{PatchCost};
 
-use crate::{Patch, Space, apply, are_chosen};
+use crate::{Mark, Patch, Position, Space, apply, are_chosen};
 use ax_prog::same::same_expr;
 use ax_prog::{Atom, Bin, Expr, FunId, Lval, Program, Sets, Slot, SlotId, Span, VarId};
+use ax_region::Label;
 use sqlite_items::{Boxed, Items};
 use std::alloc::{AllocError, Global};
 
@@ -251,5 +252,86 @@ fn chosen(rt: HostRuntime) -> Result<(), AllocError> {
         assert!(rt; !are_chosen(&program, &[SlotId(0), SlotId(0)]));
         assert!(rt; !are_chosen(&program, &[SlotId(1)]));
     }
+    Ok(())
+}
+
+/// The positions of the one expression of a program, none where it hasn't one.
+fn positions_of(
+    alloc: Global,
+    program: &Program,
+    sets: &Sets,
+    grow: u32,
+) -> Result<Items<Position>, AllocError>
+    requires grow { grow ≤ 20 }
+{
+    match space_of_all(alloc, program, sets, grow)? {
+        None => Ok(Items::new(alloc)),
+        Some(space) => {
+            if space.chosen().len() == 1 {
+                let found = space.positions(alloc, 0)?;
+                return Ok(found);
+            }
+            Ok(Items::new(alloc))
+        }
+    }
+}
+
+/// Whether the position at that place has this word and so many labels, and whether the old tree has a node there.
+fn is_at(found: &[Position], at: usize, word: &[u8], labels: usize, old: bool) -> bool {
+    match found.get(at) {
+        Some(position) => position.word.as_slice() == word
+            && position.labels.len() == labels
+            && position.old == old,
+        None => false,
+    }
+}
+
+/// Whether the label at that place of the position at that place is this operator.
+fn offers(found: &[Position], at: usize, place: usize, op: Bin) -> bool {
+    match found.get(at) {
+        Some(position) => match position.labels.as_slice().get(place) {
+            Some(Mark::Label(Label::Bin(own))) => *own == op,
+            Some(_) | None => false,
+        },
+        None => false,
+    }
+}
+
+/// `x < y` with comparisons: the root with `<`, `==`, `!=`, `<=`, `>`, `>=`, and `x` and `y`, which have no operands.
+#[test]
+fn positions_of_a_comparison(rt: HostRuntime) -> Result<(), AllocError> {
+    let alloc = rt.alloc();
+    let program = program_of(alloc, less(alloc)?)?;
+    let found = positions_of(alloc, &program, &COMPARISONS, 0)?;
+    assert!(rt; found.len() == 3);
+    assert!(rt; is_at(found.as_slice(), 0, &[], 6, true));
+    assert!(rt; is_at(found.as_slice(), 1, &[1], 1, true));
+    assert!(rt; is_at(found.as_slice(), 2, &[2], 1, true));
+    for (place, op) in [
+        (0, Bin::Lt),
+        (1, Bin::Eq),
+        (2, Bin::Ne),
+        (3, Bin::Le),
+        (5, Bin::Ge),
+    ] {
+        assert!(rt; offers(found.as_slice(), 0, place, op));
+    }
+    Ok(())
+}
+
+/// `(x < y) == (x < y)` with comparisons, grown by one letter: seven old positions, then eight new ones without labels.
+#[test]
+fn positions_of_a_grown_tree(rt: HostRuntime) -> Result<(), AllocError> {
+    let alloc = rt.alloc();
+    let left = less(alloc)?;
+    let right = less(alloc)?;
+    let program = program_of(alloc, binary(alloc, Bin::Eq, left, right)?)?;
+    let found = positions_of(alloc, &program, &COMPARISONS, 1)?;
+    assert!(rt; found.len() == 15);
+    assert!(rt; is_at(found.as_slice(), 2, &[2], 6, true));
+    assert!(rt; is_at(found.as_slice(), 3, &[1, 1], 7, true));
+    assert!(rt; is_at(found.as_slice(), 6, &[2, 2], 7, true));
+    assert!(rt; is_at(found.as_slice(), 7, &[1, 1, 1], 0, false));
+    assert!(rt; is_at(found.as_slice(), 14, &[2, 2, 2], 0, false));
     Ok(())
 }
