@@ -8,4 +8,4 @@ mod words;
 mod write;
 
 pub use read::{CnfFault, MAX_VARS, read_cnf};
-pub use write::write_cnf;
+pub use write::{push_clause_text, write_cnf};

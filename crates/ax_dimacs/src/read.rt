@@ -1,8 +1,9 @@
 //! Clause files, read.
 
-ghost use Rattle.std.specs.Prelude.{◌≡◌, ◌<◌, ◌≤◌, ◌^◌, length, codes, false, true, Bool, option_map, Ok, Err, Some, None, IfOk, IfErr, IfSome, [], ◌∷◌};
+ghost use Rattle.std.specs.Prelude.{All, ◌≡◌, ◌<◌, ◌≤◌, ◌^◌, length, codes, false, true, Bool, option_map, Ok, Err, Some, None, IfOk, IfErr, IfSome, [], ◌∷◌};
 ghost use Rattle.std.specs.Char.{is_ascii_digit};
 ghost use Rattle.std.specs.List.{list_all};
+ghost use Rattle.ax_proof.specs.Literal.{IsOver};
 ghost use Rattle.ax_proof.specs.Denied.{IfFault};
 ghost use Rattle.ax_dimacs.specs.Words.{left, end};
 ghost use Rattle.ax_dimacs.specs.Clauses.{Reads, clauses_of, head_of, is_number, literal_of, number_of, number_within, only, taken};
@@ -150,7 +151,9 @@ fn take_clauses(
 /// The clauses of a file in the profile of DIMACS (docs/FORMATS.md), or where it first leaves the profile. Clauses with a
 /// literal and its negation are left out, and a literal that stands twice in a clause counts once.
 pub fn read_cnf(alloc: Global, bytes: &[u8]) -> Result<Cnf, Denied<CnfFault>>
-    ensures { Reads bytes.now result }
+    ensures reads { Reads bytes.now result }
+    ensures few { IfOk result (λ cnf. cnf.vars ≤ MAX_VARS) }
+    ensures over { IfOk result (λ cnf. All (IsOver cnf.vars) cnf.clauses.items) }
 {
     let mut words = Words::new(bytes);
     let vars = match take_head(&mut words) {

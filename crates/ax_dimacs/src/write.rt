@@ -26,7 +26,8 @@ fn push_literal(text: &mut Vec<u8>, lit: Lit) -> Result<(), AllocError>
     Ok(())
 }
 
-fn push_clause_text(text: &mut Vec<u8>, lits: &[Lit]) -> Result<(), AllocError>
+/// Puts a line of a clause behind a text: its literals, and `0`.
+pub fn push_clause_text(text: &mut Vec<u8>, lits: &[Lit]) -> Result<(), AllocError>
     ensures { OnOk result (text.new.items ≡ text.old.items ++ clause_text lits.now) }
 {
     for lit in lits {
