@@ -1,2 +1,9 @@
+pub mod Adding
+pub mod Chains
+pub mod Marks
+pub mod Pouring
+pub mod Settling
 pub mod Stores
 pub mod Trails
+pub mod Walks
+pub mod Watching

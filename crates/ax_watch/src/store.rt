@@ -1,6 +1,6 @@
 //! Clauses in one flat list.
 
-ghost use Rattle.std.specs.Prelude.{◌≡◌, ◌++◌, ◌∷◌, ◌+◌, ◌-◌, ◌<◌, ◌≤◌, [], All, IsTrue, ◌↔◌, OnOk, OnErr, length, slice_index_or};
+ghost use Rattle.std.specs.Prelude.{◌≡◌, ◌++◌, ◌∷◌, ◌+◌, ◌-◌, ◌<◌, ◌≤◌, ◌⊎◌, [], All, IsTrue, ◌↔◌, OnOk, OnErr, length, slice_index_or};
 ghost use Rattle.ax_proof.specs.Clause.{IsClause};
 ghost use Rattle.ax_watch.specs.Store.{StoreState, clauses_at};
 
@@ -77,6 +77,7 @@ impl Store {
         ensures literals { OnOk result (literals ≤ self.new.room_literals) }
         ensures clauses_stay { self.old.room_clauses ≤ self.new.room_clauses }
         ensures literals_stay { self.old.room_literals ≤ self.new.room_literals }
+        ensures no_more { (self.new.room_clauses ≡ self.old.room_clauses) ⊎ (self.new.room_clauses ≡ clauses) }
         ensures err { OnErr result (self.new ≡ self.old) }
     {
         self.spans.reserve(clauses)?;

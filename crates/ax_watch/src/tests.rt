@@ -94,3 +94,76 @@ fn huge_tables_want_memory(rt: HostRuntime) -> Result<(), Fail> {
     assert_eq!(rt; watch.vars(), 1);
     Ok(())
 }
+
+/// The clauses of four pigeons in three holes. That the first pigeon is in a hole are the variables 1 to 3, the second
+/// 4 to 6, and so on.
+fn pigeons(rt: &impl Abort, alloc: Global) -> Result<Watch, Fail> {
+    let mut watch = Watch::new(alloc, 12)?;
+    for pigeon in [[1, 2, 3], [4, 5, 6], [7, 8, 9], [10, 11, 12]] {
+        let _ = add(rt, alloc, &mut watch, &pigeon)?;
+    }
+    for clash in [
+        [-1, -4],
+        [-1, -7],
+        [-1, -10],
+        [-4, -7],
+        [-4, -10],
+        [-7, -10],
+        [-2, -5],
+        [-2, -8],
+        [-2, -11],
+        [-5, -8],
+        [-5, -11],
+        [-8, -11],
+        [-3, -6],
+        [-3, -9],
+        [-3, -12],
+        [-6, -9],
+        [-6, -12],
+        [-9, -12],
+    ] {
+        let _ = add(rt, alloc, &mut watch, &clash)?;
+    }
+    Ok(watch)
+}
+
+/// Whether both have made the same literals true.
+fn agree(one: &Watch, other: &Watch) -> bool {
+    for lit in one.trail() {
+        if other.truth(*lit) != Truth::True {
+            return false;
+        }
+    }
+    one.trail().len() == other.trail().len()
+}
+
+/// Cuts the trail to so many literals, and makes this one true.
+fn turn(rt: &impl Abort, watch: &mut Watch, len: usize, number: i32) {
+    assert!(rt; len <= watch.trail().len());
+    watch.back(len);
+    assume(rt, watch, number);
+}
+
+/// Watching two literals of each clause comes to what going over all clauses does.
+#[test]
+fn watching_is_as_good_as_a_scan(rt: HostRuntime) -> Result<(), Fail> {
+    let mut watch = pigeons(&rt, rt.alloc())?;
+    let mut plain = pigeons(&rt, rt.alloc())?;
+    for (len, number, clashes) in [
+        (0, 1, false),
+        (4, 5, true),
+        (4, -5, true),
+        (4, -2, false),
+        (5, 8, true),
+        (0, -1, false),
+        (1, -2, false),
+        (6, 4, true),
+    ] {
+        turn(&rt, &mut watch, len, number);
+        turn(&rt, &mut plain, len, number);
+        assert_eq!(rt; watch.propagate().is_some(), clashes);
+        assert_eq!(rt; plain.propagate_by_scan().is_some(), clashes);
+        assert!(rt; clashes || agree(&watch, &plain));
+    }
+    Ok(())
+}

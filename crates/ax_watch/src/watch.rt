@@ -1,6 +1,6 @@
 //! Clauses, and literals made true.
 
-ghost use Rattle.std.specs.Prelude.{◌≡◌, ◌↔◌, ◌++◌, ◌∷◌, ◌+◌, ◌-◌, ◌<◌, ◌≤◌, [], All, IsTrue, IfOk, OnOk, OnErr, IsSome, IsNone, IfSome, IfNone, length, take, slice_index_or};
+ghost use Rattle.std.specs.Prelude.{◌≡◌, ◌↔◌, ◌++◌, ◌∷◌, ◌+◌, ◌-◌, ◌*◌, ◌<◌, ◌≤◌, [], All, IsTrue, IfOk, OnOk, OnErr, IsSome, IsNone, IfSome, IfNone, length, take, slice_index_or};
 ghost use Rattle.ax_proof.specs.Literal.{IsOver};
 ghost use Rattle.ax_proof.specs.Clause.{IsClause};
 ghost use Rattle.ax_proof.specs.Propagation.{Conflicts};
@@ -8,8 +8,10 @@ ghost use Rattle.ax_proof.specs.Trail.{IsOpen, Says};
 ghost use Rattle.ax_proof.specs.Runs.{GoesOn};
 ghost use Rattle.ax_watch.specs.Watch.{WatchState, IsSound, Reserves, Forces, HasOnlyForced, HasAllForced, WatchSays, nothing_over, trail_of, clause_of, with_clause, assuming, cut};
 
+use crate::lists::Lists;
 use crate::scan::scan;
 use crate::store::Store;
+use crate::watched;
 use ax_proof::clause::Clause;
 use ax_proof::literal::Lit;
 use ax_proof::trail::{Trail, Truth};
@@ -20,16 +22,29 @@ use std::marker::Model;
 /// alone.
 ///
 /// With each true literal stands the place of the clause that forced it, or none where it was assumed.
+///
+/// Two literals of each clause are watched, and `propagate` looks at a clause only when one of them became false. It goes
+/// on from where it came to before, unless a clause was added since, or the trail was cut to fewer literals.
 #[derive(Drop)]
 pub struct Watch {
     trail: Trail,
     store: Store,
+    /// The cells of each literal, by its code. The cells of the clause at a place are twice the place, and one more.
+    lists: Lists,
+    /// The literal that each cell watches.
+    watched: Vec<Lit>,
+    /// The places of the clauses of one literal or none, which are not watched.
+    short: Vec<usize>,
+    /// How many literals of the trail propagation came to when it last found no false clause.
+    mark: Option<usize>,
 }
 
 impl Model for Watch {
-    ghost use Rattle.std.specs.Prelude.{◌≡◌, ◌-◌, ◌≤◌, All, length};
+    ghost use Rattle.std.specs.Prelude.{◌≡◌, ◌+◌, ◌-◌, ◌*◌, ◌≤◌, All, IfSome, length, vec_len};
+    ghost use Rattle.std.specs.Vec.{vec_capacity};
     ghost use Rattle.ax_proof.specs.Literal.{IsOver};
     ghost use Rattle.ax_watch.specs.Watch.{WatchState, AreReasons};
+    ghost use Rattle.ax_watch.specs.Watched.{IsWatching, AreShort, IsMark};
 
     ghost Value = { WatchState };
 
@@ -48,6 +63,12 @@ impl Model for Watch {
       literals : IsOver (w.trail.size - 1) w.trail.lits;
       paired : length w.trail.reasons ≡ length w.trail.lits;
       reasons : AreReasons w.store.clauses w.trail.lits w.trail.reasons;
+      watching : IsWatching w.store.clauses w.trail.size w.watched.items w.lists;
+      short : AreShort w.store.clauses w.short.items;
+      mark : IfSome w.mark (λ len. IsMark w.store.clauses w.watched.items w.trail.lits len);
+      lists_fit : 2 * w.store.room_clauses ≤ w.lists.room;
+      watched_fit : vec_len w.watched + 2 * w.store.room_clauses ≤ vec_capacity w.watched;
+      short_fit : vec_len w.short + w.store.room_clauses ≤ vec_capacity w.short;
     } };
 }
 
@@ -64,9 +85,16 @@ impl Watch {
         ensures { IfOk result (λ made. made ≡ nothing_over vars) }
     {
         let size = size_for(vars)?;
+        let codes = watched::doubled(size)?;
+        let mut lists = Lists::new(alloc);
+        lists.widen(codes)?;
         Ok(Watch {
             trail: Trail::new(alloc, size)?,
             store: Store::new(alloc),
+            lists,
+            watched: Vec::new(alloc),
+            short: Vec::new(alloc),
+            mark: None,
         })
     }
 
@@ -77,6 +105,8 @@ impl Watch {
         ensures err { OnErr result (self.new ≡ self.old) }
     {
         let size = size_for(vars)?;
+        let codes = watched::doubled(size)?;
+        self.lists.widen(codes)?;
         self.trail.widen(size)?;
         Ok(())
     }
@@ -86,6 +116,7 @@ impl Watch {
         ensures done { OnOk result (Reserves clauses lits self.old self.new) }
         ensures err { OnErr result (self.new ≡ self.old) }
     {
+        watched::make_room(&mut self.lists, &mut self.watched, &mut self.short, clauses)?;
         self.store.reserve(clauses, lits)
     }
 
@@ -97,6 +128,14 @@ impl Watch {
         ensures place { result ≡ length self.old.clauses }
         ensures added { self.new ≡ with_clause self.old clause.now }
     {
+        watched::enter(
+            &mut self.lists,
+            &mut self.watched,
+            &mut self.short,
+            &self.store,
+            clause.lits(),
+        );
+        self.mark = None;
         self.store.push(clause)
     }
 
@@ -120,6 +159,35 @@ impl Watch {
         ensures conflict { IsSome result ↔ Conflicts self.old.clauses self.old.trail }
         ensures says { WatchSays self.old.clauses self.new.trail result }
     {
+        let found = watched::resume(
+            &mut self.lists,
+            self.watched.as_mut_slice(),
+            &mut self.trail,
+            &self.store,
+            self.short.as_slice(),
+            self.mark,
+        );
+        let len = self.trail.lits().len();
+        match found {
+            Some(place) => Some(place),
+            None => {
+                self.mark = Some(len);
+                None
+            }
+        }
+    }
+
+    /// Unit propagation by going over all clauses in turn, again and again: the plain program beside `propagate`, to
+    /// compare with. The next `propagate` begins with the first literal of the trail.
+    pub fn propagate_by_scan(&mut self) -> Option<usize>
+        ensures kept { self.new ≡ record self.old { trail = self.new.trail; reasons = self.new.reasons } }
+        ensures goes_on { GoesOn self.old.clauses (trail_of self.old) (trail_of self.new) }
+        ensures only_forced { HasOnlyForced self.old.clauses self.old.trail self.new.trail }
+        ensures all_forced { IfNone result (HasAllForced self.old.clauses self.old.trail self.new.trail) }
+        ensures conflict { IsSome result ↔ Conflicts self.old.clauses self.old.trail }
+        ensures says { WatchSays self.old.clauses self.new.trail result }
+    {
+        self.mark = None;
         scan(&mut self.trail, &self.store)
     }
 
@@ -138,6 +206,7 @@ impl Watch {
         ensures { self.new ≡ cut self.old len }
     {
         self.trail.back(len);
+        self.mark = watched::cut_mark(self.mark, len);
     }
 
     /// The number of variables.

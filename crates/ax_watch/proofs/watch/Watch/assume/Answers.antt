@@ -1,5 +1,6 @@
 use Rattle.std.proofs.Common.{◌≤◌, ◌-◌, arith}
 use Rattle.ax_watch.proofs.Trails.{over_push, paired_push, reasons_push}
+use Rattle.ax_watch.proofs.Marks.{mark_push}
 use Rattle.ax_watch.proofs.watch.Watch.assume.Goals as goal
 
 pub invariant_of-self : goal.invariant_of-self
@@ -12,4 +13,10 @@ invariant_of-self c =
       literals = rw (c.push.ensures.size, c.push.ensures.lits) (over_push _ _ c.args.lit low high c.self.invariant.literals);
       paired = rw (c.push.ensures.reasons, c.push.ensures.lits) (paired_push _ _ c.args.lit c.self.invariant.paired);
       reasons = rw (c.push.ensures.reasons, c.push.ensures.lits) (reasons_push _ _ _ c.args.lit c.self.invariant.paired c.self.invariant.reasons);
+      watching = rw c.push.ensures.size c.self.invariant.watching;
+      short = c.self.invariant.short;
+      mark = rw c.push.ensures.lits (mark_push _ _ _ c.args.lit _ c.self.invariant.mark);
+      lists_fit = c.self.invariant.lists_fit;
+      watched_fit = c.self.invariant.watched_fit;
+      short_fit = c.self.invariant.short_fit;
     }
