@@ -3,4 +3,9 @@ pub mod Models
 pub mod Logging
 pub mod Counting
 pub mod Watches
+pub mod Touched
 pub mod Marking
+pub mod Decisions
+pub mod Denying
+pub mod Lessons
+pub mod Descents

@@ -1,38 +1,30 @@
 -- Marks of literals, and resolution steps on them.
-use Rattle.std.proofs.Common.{◌≡◌, ◌≢◌, ℕ, ◌+◌, ◌<◌, ◌≤◌, List, [], ◌∷◌, ◌++◌, length, take, get_or, set, map, arith, ◌⊎◌, inl, inr, refl, sym, subst, ap, ◌∙◌, true, false, Bool, get_or-set_other, get_or-set_same, length-set, length-append, Option, Some, None}
-use Rattle.std.specs.Prelude.{IfSome}
+use Rattle.std.proofs.Common.{◌≡◌, ◌≢◌, ℕ, ◌+◌, ◌<◌, ◌≤◌, List, [], ◌∷◌, ◌++◌, length, take, get_or, map, arith, ◌⊎◌, inl, inr, refl, sym, subst, ap, ◌∙◌, true, false, Bool, Option, Some, None, Ok, Err}
+use Rattle.std.specs.Prelude.{Result, IfOk, IfSome}
 use Rattle.std.specs.Bool.{OnTrue}
 use Rattle.std.specs.List.{All, AllPairs, Contains}
-use Rattle.std.proofs.lemmas.Bool.{cases_order, cases_lt}
-use Rattle.std.proofs.lemmas.List.{get_or_default, take_all, take_at, length-take-le, get_or-take}
+use Rattle.std.proofs.lemmas.Bool.{cases_order}
+use Rattle.std.proofs.lemmas.List.{get_or_default, take_all, length-take-le, get_or-take}
 use Rattle.std.proofs.lemmas.List.Elements.{Contains-push, Contains-push_cases, Contains-append_left}
 use Rattle.ax_proof.specs.Literal.{Literal, negation, IsOver}
 use Rattle.ax_proof.specs.Clause.{IsClause, SameLiterals}
-use Rattle.ax_proof.specs.Propagation.{Propagates, given, unit, Conflicts}
+use Rattle.ax_proof.specs.Marks.{IsMarked}
+use Rattle.ax_proof.specs.Propagation.{Propagates, given, unit}
 use Rattle.ax_proof.specs.Trail.{IsOpen, IsConsistent, IsFalsified, IsSettled}
-use Rattle.ax_proof.specs.Runs.{Begins}
-use Rattle.ax_proof.proofs.Runs.{begins_take}
 use Rattle.ax_proof.proofs.Lists.{Contains-here, Contains-there, Contains-cons_cases, Contains-take, Contains-mapped, took}
 use Rattle.ax_proof.proofs.Literals.{negation_twice, same_or_negated}
 use Rattle.ax_proof.proofs.Clauses.{clause_does_not_clash}
 use Rattle.ax_sat.specs.Answer.{units}
-use Rattle.ax_sat.specs.Search.{Descends, IsLesson}
-use Rattle.ax_sat.specs.Analysis.{IsIn, AreIn, MarksMore, Suffices, Collects, Explains, Teaches, FoundBelow, FoundFrom, IsFrom}
-use Rattle.ax_sat.proofs.Learning.{new_line, units_settled, descends_lesson}
+use Rattle.ax_sat.specs.Marks.{MarksMore}
+use Rattle.ax_sat.specs.Search.{IsLesson}
+use Rattle.ax_sat.specs.Analysis.{IsIn, AreIn, Suffices, Collects, Explains, StandsOf, FoundIn, IsFrom}
+use Rattle.ax_sat.proofs.Learning.{new_line, units_settled}
 
 pub more_itself : (marks : List Bool) → MarksMore marks marks
 more_itself marks = record { size = refl; kept = λ v h. h }
 
-kept_set : (marks : List Bool) (at v : ℕ) → at < length marks → get_or marks v false ≡ true → get_or (set marks at true) v false ≡ true
-kept_set marks at v lt h =
-    elim (cases_order v at) [
-      | inl e ↦ let P : ℕ → Type 0 = λ n. get_or (set marks at true) n false ≡ true in subst P (sym e) (get_or-set_same marks at true false lt)
-      | inr (inl l) ↦ let ne : v ≢ at = omega arith in get_or-set_other marks at v true false ne ∙ h
-      | inr (inr g) ↦ let ne : v ≢ at = omega arith in get_or-set_other marks at v true false ne ∙ h
-    ]
-
-pub more_set : (old now : List Bool) (at : ℕ) → at < length now → MarksMore old now → MarksMore old (set now at true)
-more_set old now at lt m = record { size = let e = m.size in simp length-set (omega arith); kept = λ v h. kept_set now at v lt (m.kept v h) }
+pub more_along : (old now new : List Bool) → MarksMore old now → MarksMore now new → MarksMore old new
+more_along old now new m n = record { size = n.size ∙ m.size; kept = λ x h. n.kept x (m.kept x h) }
 
 module _ (trail : List Literal) (marks : List Bool) (except : ℕ) (lits : List Literal) (i : ℕ) (lit : Literal) (within : i < length lits) (here : lit ≡ get_or lits i lit) (before : AreIn trail marks except (take i lits)) where
   pub in_skip : lit.var ≡ except → AreIn trail marks except (take (i + 1) lits)
@@ -41,10 +33,10 @@ module _ (trail : List Literal) (marks : List Bool) (except : ℕ) (lits : List 
     | inr q ↦ let f : Literal → ℕ = λ x. x.var in absurd (ne (sym (ap f q) ∙ e))
   ])
 
-  pub in_step : lit.var < length marks → Contains trail (negation lit) → AreIn trail (set marks lit.var true) except (take (i + 1) lits)
-  in_step lt h = rw (took lits i lit within here) (λ m min ne. elim (Contains-push_cases (take i lits) lit m min) [
-    | inl q ↦ (kept_set marks lit.var m.var lt (before m q ne).0, (before m q ne).1)
-    | inr q ↦ let P : Literal → Type 0 = λ x. IsIn trail (set marks lit.var true) x in subst P q (get_or-set_same marks lit.var true false lt, h)
+  pub in_step : (new : List Bool) → MarksMore marks new → IsMarked new lit.var → Contains trail (negation lit) → AreIn trail new except (take (i + 1) lits)
+  in_step new more on h = rw (took lits i lit within here) (λ m min ne. elim (Contains-push_cases (take i lits) lit m min) [
+    | inl q ↦ (more.kept m.var (before m q ne).0, (before m q ne).1)
+    | inr q ↦ let P : Literal → Type 0 = λ x. IsIn trail new x in subst P q (on, h)
   ])
 
 pub in_all : (trail : List Literal) (marks : List Bool) (except : ℕ) (lits : List Literal) (i : ℕ) → length lits ≤ i → AreIn trail marks except (take i lits) → AreIn trail marks except lits
@@ -86,19 +78,16 @@ resolve_marked cs trail old cleared new lit d ok there rising din lin others mor
       ]);
 }
 
-pub cleared_others : (marks : List Bool) (at v : ℕ) → v ≢ at → get_or marks v false ≡ true → get_or (set marks at false) v false ≡ true
-cleared_others marks at v ne h = get_or-set_other marks at v false false ne ∙ h
-
 pub on_true : (b : Bool) (P Q : Type 0) → (P → Q) → OnTrue b P → OnTrue b Q
 on_true true P Q f h = f h
 on_true false P Q f h = tt
 
+pub ok_true : {E : Type 0} (r : Result Bool E) (P Q : Type 0) → (P → Q) → IfOk r (λ b. OnTrue b P) → IfOk r (λ b. OnTrue b Q)
+ok_true (Ok b) P Q f h = on_true b P Q f h
+ok_true (Err e) P Q f h = tt
+
 pub stands_at : (cs : List (List Literal)) (place : ℕ) → place < length cs → Contains cs (get_or cs place [])
 stands_at cs place lt = (place, lt, sym (get_or_default cs place [] (get_or cs place []) lt))
-
-not_both_bits : (b : Bool) → b ≡ true → b ≡ false → ⊥
-not_both_bits true e f = cc
-not_both_bits false e f = cc
 
 some_same : (a b : Literal) → Some a ≡ Some b → a ≡ b
 some_same a b e = cc
@@ -113,55 +102,79 @@ at_below trail now i vars n lit e within here over same =
 pub stands_here : (trail now : List Literal) (i : ℕ) (lit : Literal) → now ≡ trail → i < length now → lit ≡ get_or now i lit → Contains trail lit
 stands_here trail now i lit e within here = let P : List Literal → Type 0 = λ x. Contains x lit in subst P e (i, within, sym here)
 
-module _ (trail : List Literal) (marks : List Bool) (start i : ℕ) (others : List Literal) (lit : Literal) (lt : i < start) (low : start ≤ length trail) (here : lit ≡ get_or trail i lit) (found : FoundBelow trail marks i others) (before : (m : Literal) → Contains others m → Contains (take start trail) (negation m)) where
-  same_at : (l : Literal) → get_or trail i l ≡ l → l ≡ lit
-  same_at l e = sym e ∙ get_or_default trail i l lit (omega arith) ∙ sym here
-
-  pub found_push : FoundBelow trail marks (i + 1) (others ++ negation lit ∷ [])
-  found_push k l h e m =
-      elim (cases_lt k i) [
-        | inl less ↦ Contains-append_left others (negation lit ∷ []) (negation l) (found k l less e m)
-        | inr more ↦
-            let ke : k ≡ i = omega arith in
-            let at_k : ℕ → Type 0 = λ n. get_or trail n l ≡ l in
-            let P : Literal → Type 0 = λ x. Contains (others ++ negation lit ∷ []) (negation x) in
-            subst P (sym (same_at l (subst at_k ke e))) (Contains-push others (negation lit))
+-- one more variable of those that were marked
+module _ (trail : List Literal) (marks : List Bool) (touched : List ℕ) (i x : ℕ) (others : List Literal) (within : i < length touched) (here : x ≡ get_or touched i x) where
+  pub found_skip : (first : Option Literal) → (IsMarked marks x → ⊥) → FoundIn trail marks (take i touched) others first → FoundIn trail marks (take (i + 1) touched) others first
+  found_skip first off found m h on =
+      let P : ℕ → Type 0 = λ n. IsMarked marks n in
+      let now = rw (took touched i x within here) at h in
+      elim (Contains-push_cases (take i touched) x m.var now) [
+        | inl q ↦ found m q on
+        | inr e ↦ absurd (off (subst P (sym e) on.0))
       ]
 
-  pub found_skip : get_or marks lit.var false ≡ false → FoundBelow trail marks (i + 1) others
-  found_skip off k l h e m =
-      elim (cases_lt k i) [
-        | inl less ↦ found k l less e m
-        | inr more ↦
-            let ke : k ≡ i = omega arith in
-            let at_k : ℕ → Type 0 = λ n. get_or trail n l ≡ l in
-            let marked : Literal → Type 0 = λ x. get_or marks x.var false ≡ true in
-            absurd (not_both_bits (get_or marks lit.var false) (subst marked (same_at l (subst at_k ke e)) m) off)
+module _ (trail : List Literal) (marks : List Bool) (touched : List ℕ) (i x : ℕ) (others : List Literal) (within : i < length touched) (here : x ≡ get_or touched i x) (ok : IsConsistent trail) (at : ℕ) (t : Literal) (stands : StandsOf trail at x) (t_is : t ≡ get_or trail at t) where
+  is_true : Contains trail t
+  is_true = (at, stands.0, sym t_is)
+
+  of_x : t.var ≡ x
+  of_x = let v : Literal → ℕ = λ z. z.var in ap v t_is ∙ stands.1 t
+
+  the_one : (m : Literal) → x ≡ m.var → Contains trail (negation m) → m ≡ negation t
+  the_one m e h =
+      elim (same_or_negated m t (sym e ∙ sym of_x)) [
+        | inl q ↦ let P : Literal → Type 0 = λ z. Contains trail (negation z) in absurd (ok t is_true (subst P q h))
+        | inr q ↦ q
       ]
 
-  pub before_push : (m : Literal) → Contains (others ++ negation lit ∷ []) m → Contains (take start trail) (negation m)
-  before_push m h =
-      elim (Contains-push_cases others (negation lit) m h) [
+  pub found_early : (first : Option Literal) → FoundIn trail marks (take i touched) others first → FoundIn trail marks (take (i + 1) touched) (others ++ negation t ∷ []) first
+  found_early first found m h on =
+      let now = rw (took touched i x within here) at h in
+      elim (Contains-push_cases (take i touched) x m.var now) [
+        | inl q ↦ elim (found m q on) [
+          | inl r ↦ inl (Contains-append_left others (negation t ∷ []) m r)
+          | inr r ↦ inr r
+        ]
+        | inr e ↦ let P : Literal → Type 0 = λ z. Contains (others ++ negation t ∷ []) z in inl (subst P (sym (the_one m e on.1)) (Contains-push others (negation t)))
+      ]
+
+  pub found_late : FoundIn trail marks (take i touched) others None → FoundIn trail marks (take (i + 1) touched) others (Some (negation t))
+  found_late found m h on =
+      let now = rw (took touched i x within here) at h in
+      elim (Contains-push_cases (take i touched) x m.var now) [
+        | inl q ↦ elim (found m q on) [
+          | inl r ↦ inl r
+          | inr r ↦ absurd cc
+        ]
+        | inr e ↦ let f : Literal → Option Literal = λ z. Some z in inr (sym (ap f (the_one m e on.1)))
+      ]
+
+  pub before_early : (start : ℕ) → at < start → start ≤ length trail → ((m : Literal) → Contains others m → Contains (take start trail) (negation m)) → (m : Literal) → Contains (others ++ negation t ∷ []) m → Contains (take start trail) (negation m)
+  before_early start lt low before m h =
+      elim (Contains-push_cases others (negation t) m h) [
         | inl q ↦ before m q
         | inr q ↦
-            let P : Literal → Type 0 = λ x. Contains (take start trail) (negation x) in
-            let Q : Literal → Type 0 = λ x. Contains (take start trail) x in
+            let P : Literal → Type 0 = λ z. Contains (take start trail) (negation z) in
+            let Q : Literal → Type 0 = λ z. Contains (take start trail) z in
             let n : length (take start trail) ≡ start = length-take-le start trail low in
-            subst P q (subst Q (sym (negation_twice lit)) (i, (omega arith), get_or-take start trail i lit lt ∙ sym here))
+            subst P q (subst Q (sym (negation_twice t)) (at, (omega arith), get_or-take start trail at t lt ∙ sym t_is))
       ]
 
-module _ (trail : List Literal) (marks : List Bool) (start i : ℕ) (others : List Literal) (first : Literal) (line : List Literal)
-    (low : start ≤ length trail) (all : length trail ≤ i)
+  pub late_from : (start : ℕ) → start ≤ at → IsFrom trail start (Some (negation t))
+  late_from start low = (at, t, low, stands.0, sym t_is, refl)
+
+module _ (trail : List Literal) (marks : List Bool) (start : ℕ) (others : List Literal) (first : Literal) (line : List Literal)
+    (low : start ≤ length trail)
     (once : AllPairs (λ (a b : Literal). a.var ≢ b.var) trail) (ok : IsConsistent trail)
-    (found : FoundBelow trail marks start others) (before : (m : Literal) → Contains others m → Contains (take start trail) (negation m))
-    (later : FoundFrom trail marks start i (Some first)) (from : IsFrom trail start (Some first))
+    (found : (m : Literal) → IsIn trail marks m → Contains others m ⊎ (Some first ≡ Some m)) (before : (m : Literal) → Contains others m → Contains (take start trail) (negation m))
+    (from : IsFrom trail start (Some first))
     (same : SameLiterals (others ++ first ∷ []) line) where
   collect_all : (m : Literal) → IsIn trail marks m → Contains line m
-  collect_all m (on, (k, lt, e)) =
+  collect_all m on =
       let P : Literal → Type 0 = λ x. Contains (others ++ first ∷ []) x in
-      (same m).0 (elim (cases_lt k start) [
-        | inl less ↦ Contains-append_left others (first ∷ []) m (subst (λ (x : Literal). Contains others x) (negation_twice m) (found k (negation m) less e on))
-        | inr more ↦ subst P (some_same first (negation (negation m)) (later k (negation m) more (omega arith) e on) ∙ negation_twice m) (Contains-push others first)
+      (same m).0 (elim (found m on) [
+        | inl q ↦ Contains-append_left others (first ∷ []) m q
+        | inr q ↦ subst P (some_same first m q) (Contains-push others first)
       ])
 
   collect_same : SameLiterals line (first ∷ others)
@@ -217,14 +230,18 @@ pub if_some : {X : Type 0} (o : Option X) (P Q : X → Type 0) → ((x : X) → 
 if_some None P Q f h = tt
 if_some (Some x) P Q f h = f x h
 
-pub suffices_start : (cs : List (List Literal)) (trail : List Literal) (marks : List Bool) (vars n place : ℕ) → n ≡ vars + 1 → place < length cs → IsOver vars trail → IsFalsified trail (get_or cs place []) → AreIn trail marks n (get_or cs place []) → Suffices cs trail marks
-suffices_start cs trail marks vars n place same within over falsified marked = record {
+pub suffices_start : (cs : List (List Literal)) (trail : List Literal) (marks : List Bool) (vars place : ℕ) → place < length cs → IsOver vars trail → IsFalsified trail (get_or cs place []) → AreIn trail marks 0 (get_or cs place []) → Suffices cs trail marks
+suffices_start cs trail marks vars place within over falsified marked = record {
   conflict = λ xs h. (
     get_or cs place [],
     stands_at cs place within,
-    λ m min. h m (marked m min (let o = (over (negation m) (falsified m min)).1 in omega arith)),
+    λ m min. h m (marked m min (let o = (over (negation m) (falsified m min)).0 in omega arith)),
   );
 }
+
+-- all that were marked
+pub found_all : (trail : List Literal) (marks : List Bool) (touched : List ℕ) (i : ℕ) (others : List Literal) (first : Option Literal) → ((x : ℕ) → IsMarked marks x → Contains touched x) → length touched ≤ i → FoundIn trail marks (take i touched) others first → (m : Literal) → IsIn trail marks m → Contains others m ⊎ (first ≡ Some m)
+found_all trail marks touched i others first listed all found m on = let P : List ℕ → Type 0 = λ z. Contains z m.var in found m (subst P (sym (take_all i touched all)) (listed m.var on.0)) on
 
 pub explained : (cs : List (List Literal)) (trail : List Literal) (marks : List Bool) (start : ℕ) (line : List Literal) → Suffices cs trail marks → Collects trail marks start line → Explains cs trail start line
 explained cs trail marks start line suf c = record {
@@ -253,24 +270,3 @@ forced_here trail now i lit c e here h =
     let P : List Literal → Type 0 = λ x. Contains c (get_or x i lit) in
     let Q : Literal → Type 0 = λ x. Contains c x in
     subst Q (sym here) (subst P (sym e) h)
-
--- the trail before a decision is the front of what it became
-pub front_kept : (trail new : List Literal) (lit : Literal) (start : ℕ) → start ≡ length trail → Begins (trail ++ lit ∷ []) new → take start new ≡ trail
-front_kept trail new lit start e begins =
-    let n = length-append trail (lit ∷ []) in
-    begins_take (trail ++ lit ∷ []) new begins start (omega arith) ∙ take_at trail (lit ∷ []) start (sym e)
-
-module _ (cs : List (List Literal)) (assumed trail new denied line : List Literal) (lit : Literal) (start vars : ℕ) (d : Descends cs assumed trail denied) (at_start : start ≡ length trail) (begins : Begins (trail ++ lit ∷ []) new) where
-  pub explained_decision : IsConsistent new → IsOver vars new → Explains cs new start line → IsLesson cs assumed vars line
-  explained_decision ok over x =
-      let same : take start new ≡ trail = front_kept trail new lit start at_start begins in
-      let P : List Literal → Type 0 = λ z. All (IsSettled z) cs in
-      let Q : List Literal → Type 0 = λ z. (l : Literal) → Contains assumed l → Contains z l in
-      explained_lesson cs assumed new vars start line ok over (subst P (sym same) d.settled) (subst Q (sym same) d.assumptions) x
-
-  pub taught : IsConsistent trail → IsOpen trail lit → IsOver vars denied → 1 ≤ lit.var → lit.var ≤ vars → Conflicts cs (trail ++ lit ∷ []) → IsConsistent new → IsOver vars new → Teaches cs new start (denied ++ negation lit ∷ []) line → IsLesson cs assumed vars line
-  taught before is_free over_denied low high conflict ok over (inl x) = explained_decision ok over x
-  taught before is_free over_denied low high conflict ok over (inr (same, rising)) = descends_lesson cs assumed trail denied line lit d before is_free vars over_denied low high conflict same rising
-
-pub falsified_along : (cs ds : List (List Literal)) (trail : List Literal) (place : ℕ) → cs ≡ ds → IsFalsified trail (get_or ds place []) → IsFalsified trail (get_or cs place [])
-falsified_along cs ds trail place e h = let P : List (List Literal) → Type 0 = λ x. IsFalsified trail (get_or x place []) in subst P (sym e) h

@@ -15,11 +15,6 @@ IsIn trail marks m = IsMarked marks m.var × Contains trail (negation m)
 abbrev pub AreIn : List Literal → List Bool → ℕ → List Literal → Type 0
 AreIn trail marks except lits = (m : Literal) → Contains lits m → m.var ≢ except → IsIn trail marks m
 
--- what was marked still is
-pub record MarksMore (old new : List Bool) : Type 0 where
-  pub size : length new ≡ length old
-  pub kept : (x : ℕ) → IsMarked old x → IsMarked new x
-
 -- whoever makes all marked literals false makes a clause false
 pub record Suffices (clauses : List (List Literal)) (trail : List Literal) (marks : List Bool) : Type 0 where
   pub conflict : (xs : List Literal) → ((m : Literal) → IsIn trail marks m → Propagates clauses xs (negation m)) → Conflicts clauses xs
@@ -47,18 +42,15 @@ pub record Explains (clauses : List (List Literal)) (trail : List Literal) (star
   pub denied : (m : Literal) → Contains line m → Contains trail (negation m)
   pub rising : IsClause line
 
--- the marked literals among the first of the trail are in the list
-abbrev pub FoundBelow : List Literal → List Bool → ℕ → List Literal → Type 0
-FoundBelow trail marks index others = (k : ℕ) (l : Literal) → k < index → slice_index_or trail k l ≡ l → IsMarked marks l.var → Contains others (negation l)
+-- the literal at this place of the trail is of this variable
+abbrev pub StandsOf : List Literal → ℕ → ℕ → Type 0
+StandsOf trail at x = (at < length trail) × ((d : Literal) → (slice_index_or trail at d).var ≡ x)
 
--- the only marked literal from `start` on is this one
-abbrev pub FoundFrom : List Literal → List Bool → ℕ → ℕ → Option Literal → Type 0
-FoundFrom trail marks start index first = (k : ℕ) (l : Literal) → start ≤ k → k < index → slice_index_or trail k l ≡ l → IsMarked marks l.var → first ≡ Some (negation l)
+-- of the marked literals of these variables, each is in the list, or the one that was made false late
+abbrev pub FoundIn : List Literal → List Bool → List ℕ → List Literal → Option Literal → Type 0
+FoundIn trail marks vars others first = (m : Literal) → Contains vars m.var → IsIn trail marks m → Contains others m ⊎ (first ≡ Some m)
 
+-- the late one, if there is one, was made false from `start` on
 abbrev pub IsFrom : List Literal → ℕ → Option Literal → Type 0
 IsFrom trail start None = Unit {0}
 IsFrom trail start (Some u) = (k : ℕ) × (l : Literal) × (start ≤ k) × (k < length trail) × (slice_index_or trail k l ≡ l) × (u ≡ negation l)
-
--- a line that explains the false clause, or the clause of all that was denied
-abbrev pub Teaches : List (List Literal) → List Literal → ℕ → List Literal → List Literal → Type 0
-Teaches clauses trail start denied line = Explains clauses trail start line ⊎ (SameLiterals denied line × IsClause line)

@@ -5,7 +5,12 @@ pub mod analysis;
 pub mod answer;
 pub mod base;
 pub mod descent;
+pub mod lesson;
+pub mod levels;
+pub mod marks;
+pub mod order;
 pub mod over;
+pub mod pace;
 pub mod search;
 
 pub use answer::{Answer, Log};

@@ -1,15 +1,20 @@
 //! A search that learns line after line.
 
-ghost use Rattle.std.specs.Prelude.{◌≡◌, ◌≢◌, ◌++◌, ◌∷◌, ◌+◌, ◌<◌, ◌≤◌, ◌^◌, ◌↔◌, [], All, IfOk, OnOk, OnErr, IsTrue};
+ghost use Rattle.std.specs.Prelude.{◌≡◌, ◌≢◌, ◌++◌, ◌∷◌, ◌+◌, ◌<◌, ◌≤◌, ◌^◌, ◌↔◌, [], All, IfOk, OnOk, OnErr, IsTrue, length};
 ghost use Rattle.ax_proof.specs.Literal.{IsOver};
 ghost use Rattle.ax_proof.specs.Propagation.{HasRup};
 ghost use Rattle.ax_proof.specs.Lines.{IsLawful};
 ghost use Rattle.ax_sat.specs.Answer.{AnswerSays, LogGoesOn, units};
-ghost use Rattle.ax_sat.specs.Search.{SearchSays};
+ghost use Rattle.ax_sat.specs.Levels.{StandsIn, AsksIn};
 
 use crate::answer::{Answer, Log};
 use crate::descent::{Descent, begin, descend};
-use ax_proof::{Clause, Line, Lit};
+use crate::lesson::teach;
+use crate::levels::{Levels, back, is_root};
+use crate::marks::Marks;
+use crate::order::Order;
+use crate::pace::Pace;
+use ax_proof::{Clause, Lit};
 use ax_watch::Watch;
 use std::alloc::{AllocError, Global};
 
@@ -18,45 +23,13 @@ fn load(watch: &mut Watch, clauses: &[Clause]) -> Result<(), AllocError>
     requires { All (IsOver watch.old.vars) clauses.now }
     ensures clauses { OnOk result (watch.new.clauses ≡ watch.old.clauses ++ clauses.now) }
     ensures vars { watch.new.vars ≡ watch.old.vars }
+    ensures trail { watch.new.trail ≡ watch.old.trail }
 {
     for clause in clauses {
         watch.reserve(1, clause.len())?;
         let _place = watch.add(clause);
     }
     Ok(())
-}
-
-/// Puts a line behind those of the log, and behind the clauses that are watched.
-fn keep(watch: &mut Watch, log: &mut Log, line: Line) -> Result<(), AllocError>
-    requires { IsOver watch.old.vars line }
-    ensures watched { OnOk result (watch.new.clauses ≡ watch.old.clauses ++ line ∷ []) }
-    ensures vars { watch.new.vars ≡ watch.old.vars }
-    ensures logged { OnOk result (log.new.lines.items ≡ log.old.lines.items ++ line ∷ []) }
-    ensures refused { OnErr result (log.new.lines.items ≡ log.old.lines.items) }
-{
-    watch.reserve(1, line.len())?;
-    let _place = watch.add(&line);
-    log.lines.push(line)?;
-    Ok(())
-}
-
-/// One descent from the assumptions: none where unit propagation alone refutes them.
-fn turn(
-    alloc: Global,
-    watch: &mut Watch,
-    assumptions: &[Lit],
-) -> Result<Option<Descent>, AllocError>
-    requires vars { watch.old.vars < 2 ^ 63 }
-    requires assumed { IsOver watch.old.vars assumptions.now }
-    ensures kept { watch.new ≡ record watch.old { trail = watch.new.trail; reasons = watch.new.reasons } }
-    ensures says { IfOk result (λ found. SearchSays watch.old.clauses assumptions.now watch.old.vars found) }
-{
-    let mut denied = Vec::new(alloc);
-    if !begin(watch, assumptions, &mut denied)? {
-        return Ok(None);
-    }
-    let end = descend(alloc, watch, assumptions, &mut denied)?;
-    Ok(Some(end))
 }
 
 /// Whether unit propagation from the assumptions makes a clause false.
@@ -67,6 +40,33 @@ fn is_refuted(alloc: Global, watch: &mut Watch, assumptions: &[Lit]) -> Result<b
     let mut denied = Vec::new(alloc);
     let open = begin(watch, assumptions, &mut denied)?;
     Ok(!open)
+}
+
+/// Takes back all decisions but the assumptions, where it is time to.
+fn restart(
+    watch: &mut Watch,
+    levels: &mut Levels,
+    order: &mut Order,
+    pace: &mut Pace,
+    assumptions: &[Lit],
+) -> Result<(), AllocError>
+    requires stands { StandsIn watch.old levels.old }
+    requires asks { AsksIn watch.old assumptions.now levels.old }
+    ensures clauses { watch.new.clauses ≡ watch.old.clauses }
+    ensures vars { watch.new.vars ≡ watch.old.vars }
+    ensures stands { OnOk result (StandsIn watch.new levels.new) }
+    ensures asks { OnOk result (AsksIn watch.new assumptions.now levels.new) }
+{
+    if !pace.is_over() {
+        return Ok(());
+    }
+    if is_root(levels) {
+        return Ok(());
+    }
+    let roots = levels.roots;
+    let _known = watch.trail();
+    back(watch, levels, order, roots)?;
+    Ok(())
 }
 
 /// Searches for a model of the clauses in which the assumptions hold.
@@ -90,11 +90,33 @@ pub fn search(
     let mut watch = Watch::new(alloc, vars)?;
     load(&mut watch, clauses)?;
     load(&mut watch, log.lines.as_slice())?;
+    let mut levels = Levels::new(alloc);
+    let mut marks = Marks::new(alloc, vars)?;
+    let mut order = Order::new(alloc, vars)?;
+    let mut pace = Pace::new();
     for _ in 0..budget {
-        match turn(alloc, &mut watch, assumptions)? {
-            None => return refuted(alloc, log),
-            Some(Descent::Complete(assignment)) => return Ok(Answer::Model(assignment)),
-            Some(Descent::Learnt(line)) => keep(&mut watch, log, line)?,
+        restart(&mut watch, &mut levels, &mut order, &mut pace, assumptions)?;
+        match descend(
+            alloc,
+            &mut watch,
+            &mut levels,
+            &mut marks,
+            &mut order,
+            assumptions,
+        )? {
+            Descent::Refuted => return refuted(alloc, log),
+            Descent::Complete(assignment) => return Ok(Answer::Model(assignment)),
+            Descent::Conflict(place) => {
+                teach(
+                    alloc,
+                    &mut watch,
+                    &mut levels,
+                    &mut marks,
+                    &mut order,
+                    log,
+                    place,
+                )?;
+            }
         }
     }
     if is_refuted(alloc, &mut watch, assumptions)? {

@@ -162,3 +162,48 @@ fn bases_grow(rt: HostRuntime) -> Result<(), Fail> {
     assert!(rt; is_refuted(&second));
     Ok(())
 }
+
+/// No two of seven pigeons in this hole of six.
+fn apart(rt: &impl Abort, alloc: Global, hole: i32, clauses: &mut Vec<Clause>) -> Result<(), Fail> {
+    assert!(rt; hole > 0 && hole <= 6);
+    for first in 0..7 {
+        for second in 0..first {
+            let lits = [
+                literal(rt, -(first * 6 + hole)),
+                literal(rt, -(second * 6 + hole)),
+            ];
+            clauses.push(Clause::from_lits(alloc, lits.as_slice())?.ok_or("a clash")?)?;
+        }
+    }
+    Ok(())
+}
+
+/// A hole of six for each of seven pigeons.
+fn housed(rt: &impl Abort, alloc: Global) -> Result<Vec<Clause>, Fail> {
+    let mut clauses = Vec::new(alloc);
+    for pigeon in 0..7 {
+        let mut lits = Vec::new(alloc);
+        for hole in 1..7 {
+            lits.push(literal(rt, pigeon * 6 + hole))?;
+        }
+        clauses.push(Clause::from_lits(alloc, lits.as_slice())?.ok_or("a clash")?)?;
+    }
+    Ok(clauses)
+}
+
+/// Seven pigeons in six holes, 42 variables and 133 clauses: refuted within 100,000 lines, which the checker accepts.
+#[test]
+fn seven_pigeons_in_six_holes(rt: HostRuntime) -> Result<(), Fail> {
+    let alloc = rt.alloc();
+    let mut clauses = housed(&rt, alloc)?;
+    for hole in 1..7 {
+        apart(&rt, alloc, hole, &mut clauses)?;
+    }
+    assert_eq!(rt; clauses.len(), 133);
+    let cnf = Cnf { vars: 42, clauses };
+    let (answer, log) = solved(alloc, &cnf, &[], 100_000)?;
+    assert!(rt; is_refuted(&answer));
+    assert!(rt; ends_empty(log.lines.as_slice()));
+    assert!(rt; check_lines(alloc, &cnf, log.lines.as_slice()).is_ok());
+    Ok(())
+}

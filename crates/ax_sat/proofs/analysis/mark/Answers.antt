@@ -1,10 +1,10 @@
-use Rattle.std.proofs.Common.{◌<◌, ◌≤◌, length, arith, ◌∙◌, sym}
-use Rattle.ax_sat.proofs.Marking.{more_set, in_skip, in_step, in_all}
+use Rattle.std.proofs.Common.{◌≤◌, arith, ◌∙◌, sym}
+use Rattle.ax_sat.proofs.Marking.{more_along, in_skip, in_step, in_all}
 use Rattle.ax_sat.proofs.analysis.mark.Goals as goal
-use Rattle.ax_sat.proofs.analysis.mark.Goals.{then-var-except+in-False, else-var-except}
+use Rattle.ax_sat.proofs.analysis.mark.Goals.{then-var-except+in-False+in_ok-set-in-False, else-var-except}
 
-pub bounds-marks-var : goal.bounds-marks-var
-bounds-marks-var c =
+pub set-requires : goal.set-requires
+set-requires c =
     let o = c.clause-lits.ensures.over c.lit-item.result (c.loop-lit.lit-index, c.loop-lit-test.true, sym c.lit-item.is) in
     let high : c.lit-item.result.var ≤ c.args.watch.now.vars = o.1 in
     let v = c.var-in-False.ensures.value in
@@ -14,16 +14,12 @@ bounds-marks-var c =
 
 pub loop-lit-preserved : goal.loop-lit-preserved
 loop-lit-preserved c =
-    let o = c.clause-lits.ensures.over c.lit-item.result (c.loop-lit.lit-index, c.loop-lit-test.true, sym c.lit-item.is) in
-    let high : c.lit-item.result.var ≤ c.args.watch.now.vars = o.1 in
     elim c.if-var-except.branch [
-      | then-var-except+in-False w ↦
-          let e = c.loop-lit.invariant.more.size in
-          let f = c.requires.size in
-          let within : c.lit-item.result.var < length c.loop-lit.marks = omega arith in
-          rw (w.marks-is, w.var-in-False.ensures.value) (record {
-            more = more_set _ _ _ within c.loop-lit.invariant.more;
-            marked = in_step _ _ _ _ c.loop-lit.lit-index c.lit-item.result c.loop-lit-test.true c.lit-item.is c.loop-lit.invariant.marked within w.in-False.ensures.0;
+      | then-var-except+in-False+in_ok-set-in-False w ↦
+          let on = rw w.var-in-False.ensures.value at w.in_ok-set-in-False.ensures.marked in
+          rw w.marks-is (record {
+            more = more_along _ _ _ c.loop-lit.invariant.more w.set.ensures.more;
+            marked = in_step _ _ _ _ c.loop-lit.lit-index c.lit-item.result c.loop-lit-test.true c.lit-item.is c.loop-lit.invariant.marked _ w.set.ensures.more on w.in-False.ensures.0;
           })
       | else-var-except w ↦
           rw w.marks-is (record {

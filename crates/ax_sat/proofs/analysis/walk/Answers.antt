@@ -2,8 +2,8 @@ use Rattle.std.proofs.Common.{◌-◌, ◌<◌, ◌∙◌, length, arith}
 use Rattle.ax_sat.proofs.Marking.{at_below, forced_here}
 use Rattle.ax_sat.proofs.analysis.walk.Goals as goal
 
-pub bounds-marks-var : goal.bounds-marks-var
-bounds-marks-var c =
+pub has-requires : goal.has-requires
+has-requires c =
     let at = c.loop-index.index - 1 in
     let within : at < length c.trail-trail.result.now = omega arith in
     let h = at_below _ _ at _ _ c.index-trail-index.result c.trail-trail.ensures.value within c.index-trail-index.is c.trail-trail.ensures.sound.literals (c.loop-index.invariant.size ∙ c.requires.size) in

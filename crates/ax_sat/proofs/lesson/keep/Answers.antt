@@ -1,7 +1,7 @@
 use Rattle.std.proofs.Common.{◌≡◌, ap}
 use Rattle.ax_watch.specs.Watch.{WatchState}
 use Rattle.ax_sat.proofs.Watches.{over_along}
-use Rattle.ax_sat.proofs.search.keep.Goals as goal
+use Rattle.ax_sat.proofs.lesson.keep.Goals as goal
 
 pub add-place-requires-clause-over : goal.add-place-requires-clause-over
 add-place-requires-clause-over c =
