@@ -1,0 +1,4 @@
+pub mod Blasting
+pub mod Table
+pub mod Blasted
+pub mod Reading
