@@ -1,0 +1,3 @@
+mod Fractions
+mod Lists
+mod Orders
