@@ -1,0 +1,5 @@
+pub mod Tools
+pub mod ExpressionsSound
+pub mod DeclarationsSound
+pub mod StatementsSound
+pub mod SourcesSound
