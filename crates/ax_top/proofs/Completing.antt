@@ -8,7 +8,7 @@ use Rattle.ax_space.specs.declared.Patch.{Patch}
 use Rattle.ax_least.specs.Least.{IsRepair, NoRepair}
 use Rattle.ax_outside.specs.Seen.{Adds, AddsPart, NoLess, Rose, Seen}
 use Rattle.ax_words.specs.declared.order.Order.{Order}
-use Rattle.ax_words.specs.declared.order.Order.TheVariants.{Check, Gen, Rank, Repair, Run}
+use Rattle.ax_words.specs.declared.order.Order.TheVariants.{Check, Gen, Prove, Rank, Repair, Run}
 use Rattle.ax_words.specs.declared.order.RepairOrder.{RepairOrder}
 use Rattle.ax_words.specs.Laws.{SameRepair}
 use Rattle.ax_words.specs.Words.{Says}
@@ -17,7 +17,7 @@ use Rattle.ax_top.specs.declared.answer.Answer.{Answer}
 use Rattle.ax_top.specs.declared.answer.Answer.TheVariants as answer
 use Rattle.ax_top.specs.declared.files.Stop.{Stop}
 use Rattle.ax_top.specs.Built.{space_for}
-use Rattle.ax_top.specs.Causes.{Does, answered, memory, refused, stopped}
+use Rattle.ax_top.specs.Causes.{Does, answered, memory, proves, refused, stopped}
 use Rattle.ax_top.specs.Complete.{Complete, EndsRepaired, EndsUnrepaired, IsAsked, IsCutOff, cut_off, fails_to_give, fails_to_print, repaired, unrepaired, wants_memory}
 use Rattle.ax_top.specs.Delivery.{Delivery, Gives, print_failed, put_failed, whole}
 use Rattle.ax_top.specs.Ends.{Stops}
@@ -37,6 +37,7 @@ module _ (old new : Seen) (titles words : List (List ℕ)) (status : ℕ) (o : R
   by-stop (Run source tests steps) why mid says stops less = absurd (one_order words (Run source tests steps) (Repair o) says asked.says)
   by-stop (Rank source tests formula steps) why mid says stops less = absurd (one_order words (Rank source tests formula steps) (Repair o) says asked.says)
   by-stop (Gen n) why mid says stops less = absurd (one_order words (Gen n) (Repair o) says asked.says)
+  by-stop (Prove cnf proof budget) why mid says stops less = absurd (one_order words (Prove cnf proof budget) (Repair o) says asked.says)
 
   stopped-off : (order : Order) (why : Stop) (mid : Seen) → Says words (Ok order) → Stops old mid titles order why → NoLess mid new
       → status ≡ stop_status why → IsCutOff old new o status
@@ -51,7 +52,7 @@ module _ (old new : Seen) (titles words : List (List ℕ)) (status : ℕ) (o : R
 
     -- ---- some patch is a repair
 
-    by-delivery : (text report : List ℕ) → Delivery old new (string_bytes it.out) text report status → EndsRepaired old new o status
+    by-delivery : (text report : List ℕ) → Delivery old new (string_bytes it.out) text report 0 status → EndsRepaired old new o status
     by-delivery text report (whole e holds adds) = repaired e
     by-delivery text report (put_failed e holds stays rose) =
         fails_to_give e (inl (subst (λ (name : List ℕ). Rose (old.puts name) (new.puts name)) alike.out rose))
@@ -84,12 +85,14 @@ module _ (old new : Seen) (titles words : List (List ℕ)) (status : ℕ) (o : R
   ends-some patch is (refused fault m says e f) = absurd (m (orders_have_no_fault words (Repair o) fault asked.says says))
   ends-some patch is (stopped order why mid says stops same less e f) = cut_off (stopped-off order why mid says stops f.counts e)
   ends-some patch is (answered it a says answers gives) = answered-some it says a patch is answers gives
+  ends-some patch is (proves cnf proof budget says d) = absurd (one_order words (Prove cnf proof budget) (Repair o) says asked.says)
 
   ends-none : NoRepair program suite.tests o.bounds (space_for program o chosen) → Does old new titles words status → EndsUnrepaired old new o status
   ends-none none (memory e same less) = cut_off (wants_memory e)
   ends-none none (refused fault m says e f) = absurd (m (orders_have_no_fault words (Repair o) fault asked.says says))
   ends-none none (stopped order why mid says stops same less e f) = cut_off (stopped-off order why mid says stops f.counts e)
   ends-none none (answered it a says answers gives) = answered-none it says a none answers gives
+  ends-none none (proves cnf proof budget says d) = absurd (one_order words (Prove cnf proof budget) (Repair o) says asked.says)
 
 pub complete : (old new : Seen) (titles words : List (List ℕ)) (status : ℕ) → Does old new titles words status → Complete old new words status
 complete old new titles words status does = record {

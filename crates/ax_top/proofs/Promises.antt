@@ -10,11 +10,12 @@ use Rattle.ax_top.specs.declared.answer.Answer.{Answer}
 use Rattle.ax_top.specs.declared.answer.Answer.TheVariants as answer
 use Rattle.ax_top.specs.declared.files.Stop.{Stop}
 use Rattle.ax_top.specs.declared.files.Stop.TheVariants as stop
-use Rattle.ax_top.specs.Causes.{Does, Keeps, IsNotOut, answered, memory, refused, stopped}
+use Rattle.ax_top.specs.Causes.{Does, Keeps, IsNotOut, answered, memory, proves, refused, stopped}
 use Rattle.ax_top.specs.Delivery.{Delivery, Gives, print_failed, put_failed, whole}
 use Rattle.ax_top.specs.Headline.{FoundNone, GaveLess, Headline, WroteLeast}
 use Rattle.ax_top.specs.Repairs.{Answers, no_repair_report}
 use Rattle.ax_top.specs.Reports.{stop_status}
+use Rattle.ax_top.proofs.Proven.{proof-counts, proof-kept, proven}
 
 module _ (old new : Seen) (titles words : List (List ℕ)) (status : ℕ) where
   none-of : (n : ℕ) → (n ≡ 0 → ⊥) → (n ≡ 1 → ⊥) → (n ≡ 7 → ⊥) → status ≡ n → Headline old new titles words status
@@ -54,21 +55,21 @@ module _ (old new : Seen) (titles words : List (List ℕ)) (status : ℕ) where
   }
 
   by-delivery : (o : RepairOrder) (text lines : List ℕ) → Says words (Ok (Repair o)) → Answers old titles o (answer.Repaired text lines)
-      → Delivery old new (string_bytes o.out) text lines status → Headline old new titles words status
+      → Delivery old new (string_bytes o.out) text lines 0 status → Headline old new titles words status
   by-delivery o text lines says a (whole e holds adds) = record {
-    zero = λ h. wrote o text lines says a holds adds;
+    zero = λ h. inl (wrote o text lines says a holds adds);
     one = λ h. absurd (omega arith);
     seven = λ h. absurd (omega arith);
   }
   by-delivery o text lines says a (put_failed e holds stays rose) = record {
     zero = λ h. absurd (omega arith);
     one = λ h. absurd (omega arith);
-    seven = λ h. record { order = o; says = says; rose = inl rose };
+    seven = λ h. inl (record { order = o; says = says; rose = inl rose });
   }
   by-delivery o text lines says a (print_failed e holds adds rose) = record {
     zero = λ h. absurd (omega arith);
     one = λ h. absurd (omega arith);
-    seven = λ h. record { order = o; says = says; rose = inr rose };
+    seven = λ h. inl (record { order = o; says = says; rose = inr rose });
   }
 
   by-report : (o : RepairOrder) → Says words (Ok (Repair o)) → Answers old titles o answer.NoRepair
@@ -77,14 +78,14 @@ module _ (old new : Seen) (titles words : List (List ℕ)) (status : ℕ) where
   by-report o says a (inl done) =
       let e : status ≡ 1 = done.0 in record {
         zero = λ h. absurd (omega arith);
-        one = λ h. record { order = o; source = a.source; program = a.program; suite = a.suite; chosen = a.chosen; says = says; sought = a.sought; none = a.answered; reports = done.1 };
+        one = λ h. inl (record { order = o; source = a.source; program = a.program; suite = a.suite; chosen = a.chosen; says = says; sought = a.sought; none = a.answered; reports = done.1 });
         seven = λ h. absurd (omega arith);
       }
   by-report o says a (inr failed) =
       let e : status ≡ 7 = failed.0 in record {
         zero = λ h. absurd (omega arith);
         one = λ h. absurd (omega arith);
-        seven = λ h. record { order = o; says = says; rose = inr failed.2 };
+        seven = λ h. inl (record { order = o; says = says; rose = inr failed.2 });
       }
 
   by-answer : (o : RepairOrder) (it : Answer) → Says words (Ok (Repair o)) → Answers old titles o it → Gives old new (string_bytes o.out) it status
@@ -97,9 +98,15 @@ module _ (old new : Seen) (titles words : List (List ℕ)) (status : ℕ) where
   headline (refused fault m says e f) = none-of 2 (λ h. omega arith) (λ h. omega arith) (λ h. omega arith) e
   headline (stopped it why mid says stops same less e f) = by-stop why e
   headline (answered o it says a gives) = by-answer o it says a gives
+  headline (proves cnf proof budget says d) =
+      let p = proven old new words status cnf proof budget says d in record {
+        zero = λ h. inr (p.zero h);
+        one = λ h. inr (p.one h);
+        seven = λ h. inr (p.seven h);
+      }
 
   keeps-out : (o : RepairOrder) (it : Answer) → Says words (Ok (Repair o)) → Gives old new (string_bytes o.out) it status → Keeps old new words
-  keeps-out o (answer.Repaired text lines) says d = record { kept = λ f h. d.others f (h o says); counts = d.counts }
+  keeps-out o (answer.Repaired text lines) says d = record { kept = λ f h. d.others f (h.out o says); counts = d.counts }
   keeps-out o answer.NoRepair says r = record { kept = λ f h. r.kept f; counts = r.counts }
 
   pub keeps : Does old new titles words status → Keeps old new words
@@ -110,3 +117,7 @@ module _ (old new : Seen) (titles words : List (List ℕ)) (status : ℕ) where
     counts = no_less-then _ _ _ less f.counts;
   }
   keeps (answered o it says a gives) = keeps-out o it says gives
+  keeps (proves cnf proof budget says d) = record {
+    kept = λ f h. proof-kept old new (string_bytes cnf) (string_bytes proof) budget status d f (h.proof cnf proof budget says);
+    counts = proof-counts old new (string_bytes cnf) (string_bytes proof) budget status d;
+  }

@@ -9,10 +9,11 @@ use Rattle.ax_words.specs.declared.order.WordFault.{WordFault}
 use Rattle.ax_words.specs.Words.{Says}
 use Rattle.ax_top.specs.declared.answer.Answer.{Answer}
 use Rattle.ax_top.specs.declared.files.Stop.{Stop}
-use Rattle.ax_top.specs.Causes.{Does, OrderStopped, WordsRefused, answered, memory, refused, stopped}
+use Rattle.ax_top.specs.Causes.{Does, OrderStopped, WordsRefused, answered, memory, proves, refused, stopped}
 use Rattle.ax_top.specs.Delivery.{Gives, out_of}
 use Rattle.ax_top.specs.Ends.{Ends, Stops}
 use Rattle.ax_top.specs.Orders.{RankStops}
+use Rattle.ax_top.specs.Proving.{DoesProve}
 use Rattle.ax_top.specs.Repairs.{Answers}
 use Rattle.ax_top.proofs.Giving.{gives-after}
 
@@ -24,6 +25,14 @@ module _ (old new : Seen) (given words : List (String Global)) (same : given ≡
       → Does old new titles (map string_bytes words) status
   refused-does titles fault s (inl m) = memory m.0 m.1 m.2
   refused-does titles fault s (inr r) = refused fault r.0 (said (Err fault) s) r.1 r.2
+
+  -- texts that are those of the order
+  pub proves-does : (titles : List (List ℕ)) (cnf proof : String Global) (budget : ℕ) → Says (map string_bytes given) (Ok (order.Prove cnf proof budget))
+      → (name text : List ℕ) → name ≡ string_bytes cnf → text ≡ string_bytes proof → DoesProve old new name text budget status
+      → Does old new titles (map string_bytes words) status
+  proves-does titles cnf proof budget s name text a b d =
+      let first = subst (λ (n : List ℕ). DoesProve old new n text budget status) a d in
+      proves cnf proof budget (said (Ok (order.Prove cnf proof budget)) s) (subst (λ (t : List ℕ). DoesProve old new (string_bytes cnf) t budget status) b first)
 
   -- the rankers were lent as a list that is theirs
   pub stopped-does : {X : Type 0} (title : X → List ℕ) (boxes rankers : List X) → boxes ≡ rankers
@@ -43,6 +52,7 @@ module _ (old new : Seen) (given words : List (String Global)) (same : given ≡
   answered-does title boxes rankers is (order.Run a b n) answer mid s ends kept less gives = absurd ends
   answered-does title boxes rankers is (order.Rank a b d n) answer mid s ends kept less gives = absurd ends
   answered-does title boxes rankers is (order.Gen n) answer mid s ends kept less gives = absurd ends
+  answered-does title boxes rankers is (order.Prove a b n) answer mid s ends kept less gives = absurd ends
 
 -- texts that are equal
 pub rank_under : (old new : Seen) (titles : List (List ℕ)) (source source_is tests tests_is formula formula_is : List ℕ) (why : Stop)

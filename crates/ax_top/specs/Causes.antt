@@ -1,8 +1,9 @@
 -- Each status, with its cause. There is no other status.
-use Rattle.std.specs.Prelude.{◌≡◌, ◌≢◌, ◌⊎◌, ℕ, List, Ok, Err, string_bytes}
+use Rattle.std.specs.Prelude.{◌≡◌, ◌≢◌, ◌⊎◌, ℕ, List, Ok, Err, String, string_bytes}
+use Rattle.std.specs.Global.{Global}
 use Rattle.ax_outside.specs.Seen.{NoLess, Same, Seen}
 use Rattle.ax_words.specs.declared.order.Order.{Order}
-use Rattle.ax_words.specs.declared.order.Order.TheVariants.{Repair}
+use Rattle.ax_words.specs.declared.order.Order.TheVariants.{Prove, Repair}
 use Rattle.ax_words.specs.declared.order.RepairOrder.{RepairOrder}
 use Rattle.ax_words.specs.declared.order.WordFault.{WordFault}
 use Rattle.ax_words.specs.declared.order.WordFault.TheVariants.{Memory}
@@ -11,12 +12,13 @@ use Rattle.ax_top.specs.declared.answer.Answer.{Answer}
 use Rattle.ax_top.specs.declared.files.Stop.{Stop}
 use Rattle.ax_top.specs.Delivery.{Gives}
 use Rattle.ax_top.specs.Ends.{Stops}
+use Rattle.ax_top.specs.Proving.{DoesProve}
 use Rattle.ax_top.specs.Repairs.{Answers}
 use Rattle.ax_top.specs.Reports.{Finishes, stop_report, stop_status, words_report}
 
 -- What the program does, over rankers of these names: want of memory, after which nothing is printed; or the words are refused,
 -- and the report says why; or they are an order, which something stops, and the report says what; or they are an order to
--- repair, and its answer is given.
+-- repair, and its answer is given; or they are an order to prove, which is done.
 pub data Does (old new : Seen) (titles words : List (List ℕ)) (status : ℕ) : Type 0 where
   memory : status ≡ 10 → Same old new → NoLess old new → Does old new titles words status
   refused : (fault : WordFault) → fault ≢ Memory → Says words (Err fault) → status ≡ 2 → Finishes old new (words_report fault)
@@ -25,12 +27,15 @@ pub data Does (old new : Seen) (titles words : List (List ℕ)) (status : ℕ) :
       → status ≡ stop_status why → Finishes mid new (stop_report order why) → Does old new titles words status
   answered : (o : RepairOrder) (answer : Answer) → Says words (Ok (Repair o)) → Answers old titles o answer
       → Gives old new (string_bytes o.out) answer status → Does old new titles words status
+  proves : (cnf proof : String Global) (budget : ℕ) → Says words (Ok (Prove cnf proof budget))
+      → DoesProve old new (string_bytes cnf) (string_bytes proof) budget status → Does old new titles words status
 
--- the name isn't that of the OUT of the order
-abbrev pub IsNotOut : List (List ℕ) → List ℕ → Type 0
-IsNotOut words f = (o : RepairOrder) → Says words (Ok (Repair o)) → f ≢ string_bytes o.out
+-- the name isn't that of the OUT, or of the PROOF, of the order
+pub record IsNotOut (words : List (List ℕ)) (f : List ℕ) : Type 0 where
+  pub out : (o : RepairOrder) → Says words (Ok (Repair o)) → f ≢ string_bytes o.out
+  pub proof : (cnf proof : String Global) (budget : ℕ) → Says words (Ok (Prove cnf proof budget)) → f ≢ string_bytes proof
 
--- no name but that of OUT changes, and no count of faults falls
+-- no name but that of OUT, or of PROOF, changes, and no count of faults falls
 pub record Keeps (old new : Seen) (words : List (List ℕ)) : Type 0 where
   pub kept : (f : List ℕ) → IsNotOut words f → new.kept f ≡ old.kept f
   pub counts : NoLess old new

@@ -19,22 +19,22 @@ pub record Reports (old new : Seen) (report : List ℕ) (own status : ℕ) : Typ
   pub kept : (f : List ℕ) → new.kept f ≡ old.kept f
   pub counts : NoLess old new
 
--- OUT holds the text and the report was printed; or the put failed, and nothing was printed; or OUT holds the text and the
+-- a name holds the text and the report was printed, and the status is its own; or the put failed, and nothing was printed; or the name holds the text and the
 -- print failed
-pub data Delivery (old new : Seen) (out text report : List ℕ) (status : ℕ) : Type 0 where
-  whole : status ≡ 0 → Holds (old.kept out) text (new.kept out) → Adds old.printed report new.printed
-      → Delivery old new out text report status
+pub data Delivery (old new : Seen) (out text report : List ℕ) (own status : ℕ) : Type 0 where
+  whole : status ≡ own → Holds (old.kept out) text (new.kept out) → Adds old.printed report new.printed
+      → Delivery old new out text report own status
   put_failed : status ≡ 7 → HoldsPart (old.kept out) text (new.kept out) → new.printed ≡ old.printed → Rose (old.puts out) (new.puts out)
-      → Delivery old new out text report status
+      → Delivery old new out text report own status
   print_failed : status ≡ 7 → Holds (old.kept out) text (new.kept out) → AddsPart old.printed report new.printed → Rose old.prints new.prints
-      → Delivery old new out text report status
+      → Delivery old new out text report own status
 
-pub record Delivers (old new : Seen) (out text report : List ℕ) (status : ℕ) : Type 0 where
-  pub ended : Delivery old new out text report status
+pub record Delivers (old new : Seen) (out text report : List ℕ) (own status : ℕ) : Type 0 where
+  pub ended : Delivery old new out text report own status
   pub others : (f : List ℕ) → f ≢ out → new.kept f ≡ old.kept f
   pub counts : NoLess old new
 
 -- a repaired source is put before its report is printed; without a repair only the report is
 abbrev pub Gives : Seen → Seen → List ℕ → Answer → ℕ → Type 0
-Gives old new out (answer.Repaired text report) status = Delivers old new out text report status
+Gives old new out (answer.Repaired text report) status = Delivers old new out text report 0 status
 Gives old new out answer.NoRepair status = Reports old new no_repair_report 1 status

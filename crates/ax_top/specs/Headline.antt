@@ -13,6 +13,7 @@ use Rattle.ax_words.specs.declared.order.RepairOrder.{RepairOrder}
 use Rattle.ax_words.specs.Words.{Says}
 use Rattle.ax_top.specs.Built.{space_for}
 use Rattle.ax_top.specs.Orders.{numbers_of}
+use Rattle.ax_top.specs.Proving.{FoundModel, GaveLessOfProof, WroteProof}
 use Rattle.ax_top.specs.Repairs.{IsSought, no_repair_report, repaired_report}
 
 -- The words are an order to repair with which nothing is wrong. A patch of its space has the least cost of those with
@@ -53,8 +54,9 @@ pub record GaveLess (old new : Seen) (words : List (List ℕ)) : Type 0 where
   pub says : Says words (Ok (Repair order))
   pub rose : Rose (old.puts (string_bytes order.out)) (new.puts (string_bytes order.out)) ⊎ Rose old.prints new.prints
 
--- The headline: 0 only where a least repair was written, 1 only where there is none, 7 only where a put or a print failed.
+-- The headline: 0 only where a least repair was written, or where clauses have no model and a proof of that was; 1 only where
+-- there is no repair, or where a model was printed; 7 only where a put or a print failed.
 pub record Headline (old new : Seen) (titles words : List (List ℕ)) (status : ℕ) : Type 0 where
-  pub zero : status ≡ 0 → WroteLeast old new titles words
-  pub one : status ≡ 1 → FoundNone old new titles words
-  pub seven : status ≡ 7 → GaveLess old new words
+  pub zero : status ≡ 0 → WroteLeast old new titles words ⊎ WroteProof old new words
+  pub one : status ≡ 1 → FoundNone old new titles words ⊎ FoundModel old new words
+  pub seven : status ≡ 7 → GaveLess old new words ⊎ GaveLessOfProof old new words

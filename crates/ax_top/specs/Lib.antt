@@ -6,6 +6,7 @@ pub mod Repairs
 pub mod Ends
 pub mod Delivery
 pub mod Reports
+pub mod Proving
 pub mod Causes
 pub mod Headline
 pub mod Complete

@@ -10,7 +10,7 @@ use Rattle.ax_front.specs.declared.SourceFault.{SourceFault}
 use Rattle.ax_front.specs.declared.SourceFault.TheVariants as front
 use Rattle.ax_parse.specs.declared.faults.ParseFault.TheVariants as parse
 use Rattle.ax_words.specs.declared.order.Order.{Order}
-use Rattle.ax_words.specs.declared.order.Order.TheVariants.{Check, Gen, Rank, Repair, Run}
+use Rattle.ax_words.specs.declared.order.Order.TheVariants.{Check, Gen, Prove, Rank, Repair, Run}
 use Rattle.ax_words.specs.declared.order.WordFault.{WordFault}
 use Rattle.ax_words.specs.declared.order.WordFault.TheVariants as words
 use Rattle.ax_top.specs.declared.files.File.{File}
@@ -31,6 +31,7 @@ name_of (Check source tests patched cert) file = one_of file (string_bytes sourc
 name_of (Run source tests steps) file = one_of file (string_bytes source) (string_bytes tests) []
 name_of (Rank source tests formula steps) file = one_of file (string_bytes source) (string_bytes tests) []
 name_of (Gen n) file = []
+name_of (Prove cnf proof budget) file = []
 
 abbrev pub refused_at : List ℕ → ℕ → List ℕ
 refused_at what at = codes "source refused: " ++ (what ++ (codes " at " ++ (decimal at ++ codes "\n")))

@@ -3,10 +3,12 @@ ghost use Rattle.std.specs.Prelude.{map, string_bytes};
 ghost use Rattle.ax_top.specs.Causes.{Does, Keeps, OrderStopped, WordsRefused};
 ghost use Rattle.ax_top.specs.Complete.{Complete};
 ghost use Rattle.ax_top.specs.Headline.{Headline};
+ghost use Rattle.ax_top.specs.Proving.{Proving};
 
 use crate::delivery::give;
 use crate::files::Stop;
 use crate::orders::result_of;
+use crate::proving::prove;
 use crate::report::{print_refusal, status_of, stop_text, words_text};
 use ax_outside::Shelf;
 use ax_rank::Ranker;
@@ -47,20 +49,23 @@ fn refuse_order<S: Shelf>(alloc: Global, order: &Order, stop: Stop, shelf: &mut 
 ///
 /// | Status | Comes |
 /// |---|---|
-/// | 0 | a least repair was written under OUT and reported |
-/// | 1 | there is no repair |
+/// | 0 | a least repair was written under OUT and reported, or a proof that clauses have no model under PROOF |
+/// | 1 | there is no repair, or the clauses have a model |
 /// | 2 | the words are no order, no handed-in ranker has the name that it needs, or a picked number is no candidate's |
 /// | 3 | the source spells no tokens, or they nest too deeply |
 /// | 4 | the tests are no suite |
-/// | 5 | a file has more bytes than it may have: 268,435,456 for a certificate, 1,048,576 for the others |
+/// | 5 | a file has more bytes than it may have: 268,435,456 for a certificate or a clause file, 1,048,576 for the others |
 /// | 6 | a file couldn't be read |
-/// | 7 | OUT couldn't be put, or the report of 0 or 1 couldn't be printed |
+/// | 7 | OUT or PROOF couldn't be put, or the report of 0, 1 or 9 couldn't be printed |
+/// | 9 | as many lines as the budget were written under PROOF |
 /// | 10 | memory was wanting |
 /// | 11 | the source isn't of the first form, or the rest of the order isn't built yet |
+/// | 13 | CNF is no clause file |
 ///
 /// The first of these comes in the order words, ranker, source, tests, picked numbers or certificate, as far as the
 /// command has them; 0, 1 or 7 comes where none of the others does. The report is printed after all else, but at 10, and
-/// at 7 after a put that failed, nothing is. No name of the shelf but OUT changes, and OUT at 0 and 7 alone.
+/// at 7 after a put that failed, nothing is. No name of the shelf but OUT or PROOF
+/// changes, OUT at 0 and 7 alone, and PROOF at 0, 7 and 9.
 ///
 /// An order to repair is built where it takes `cmp` alone and picks one candidate of at most three binary operators,
 /// other than that of the `return 0;` at the end.
@@ -73,10 +78,14 @@ pub fn angelix<S: Shelf>(
     ensures does { Does (S.seen shelf.old) (S.seen shelf.new) (map (λ r. title r) rankers.items) (map string_bytes words.items) result }
     ensures headline { Headline (S.seen shelf.old) (S.seen shelf.new) (map (λ r. title r) rankers.items) (map string_bytes words.items) result }
     ensures complete { Complete (S.seen shelf.old) (S.seen shelf.new) (map string_bytes words.items) result }
+    ensures proving { Proving (S.seen shelf.old) (S.seen shelf.new) (map string_bytes words.items) result }
     ensures keeps { Keeps (S.seen shelf.old) (S.seen shelf.new) (map string_bytes words.items) }
 {
     match read_words(alloc, &words) {
         Err(fault) => refuse_words(alloc, &fault, shelf),
+        Ok(Order::Prove { cnf, proof, budget }) => {
+            prove(alloc, cnf.as_str(), proof.as_str(), budget, shelf)
+        }
         Ok(order) => match result_of(alloc, &order, &rankers, shelf) {
             Err(stop) => refuse_order(alloc, &order, stop, shelf),
             Ok(answer) => give(&order, &answer, shelf),

@@ -6,8 +6,8 @@ use crate::answer::Answer;
 use ax_outside::{Failed, Shelf};
 use ax_words::Order;
 
-// Prints the report of a result that has this status.
-fn report<S: Shelf>(shelf: &mut S, text: &[u8], own: u8) -> u8
+/// Prints the report of a result that has this status.
+pub fn report<S: Shelf>(shelf: &mut S, text: &[u8], own: u8) -> u8
     ensures { Reports (S.seen shelf.old) (S.seen shelf.new) text.now own result }
 {
     match shelf.print(text) {
@@ -16,12 +16,12 @@ fn report<S: Shelf>(shelf: &mut S, text: &[u8], own: u8) -> u8
     }
 }
 
-// Puts a repaired source, and then prints its report.
-fn deliver<S: Shelf>(shelf: &mut S, out: &str, text: &[u8], lines: &[u8]) -> u8
-    ensures { Delivers (S.seen shelf.old) (S.seen shelf.new) out.now text.now lines.now result }
+/// Puts a text, and then prints the report of a result that has this status.
+pub fn deliver<S: Shelf>(shelf: &mut S, out: &str, text: &[u8], lines: &[u8], own: u8) -> u8
+    ensures { Delivers (S.seen shelf.old) (S.seen shelf.new) out.now text.now lines.now own result }
 {
     match shelf.put(out, text) {
-        Ok(()) => report(shelf, lines, 0),
+        Ok(()) => report(shelf, lines, own),
         Err(Failed) => 7,
     }
 }
@@ -43,7 +43,7 @@ pub fn give<S: Shelf>(order: &Order, answer: &Answer, shelf: &mut S) -> u8
         Answer::Repaired {
             text,
             report: lines,
-        } => deliver(shelf, out_in(order), text.as_slice(), lines.as_slice()),
+        } => deliver(shelf, out_in(order), text.as_slice(), lines.as_slice(), 0),
         Answer::NoRepair => report(shelf, b"no repair\n", 1),
     }
 }

@@ -11,6 +11,7 @@ mod delivery;
 mod files;
 mod judging;
 mod orders;
+mod proving;
 mod rankers;
 mod report;
 #[cfg(test)]

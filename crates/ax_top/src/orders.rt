@@ -2,7 +2,7 @@
 ghost use Rattle.std.specs.Prelude.{◌≡◌, ◌≤◌, map, string_bytes};
 ghost use Rattle.ax_outside.specs.Seen.{NoLess, Same};
 ghost use Rattle.ax_top.specs.Orders.{CheckStops, ChoiceJudged, PicksJudged, RankStops, RepairJudged, RunStops, first_beyond, numbers_of};
-ghost use Rattle.ax_top.specs.Ends.{Ends, GrowsLittle};
+ghost use Rattle.ax_top.specs.Ends.{Ends, GrowsLittle, IsOther};
 ghost use Rattle.ax_top.specs.Repairs.{RepairEnds};
 
 use crate::answer::{Answer, search};
@@ -147,14 +147,15 @@ fn rank<S: Shelf>(
     }
 }
 
-/// What an order comes to, before anything is put or printed: its answer, or what stops it.
+/// What an order other than to prove comes to, before anything is put or printed: its answer, or what stops it.
 pub fn result_of<S: Shelf>(
     alloc: Global,
     order: &Order,
     rankers: &[Box<dyn Ranker>],
     shelf: &mut S,
 ) -> Result<Answer, Stop>
-    requires { GrowsLittle order.now }
+    requires grows { GrowsLittle order.now }
+    requires other { IsOther order.now }
     ensures ends { Ends (S.seen shelf.old) (S.seen shelf.new) (map (λ r. title r) rankers.now) order.now result }
     ensures same { Same (S.seen shelf.old) (S.seen shelf.new) }
     ensures counts { NoLess (S.seen shelf.old) (S.seen shelf.new) }
@@ -182,5 +183,6 @@ pub fn result_of<S: Shelf>(
             shelf,
         )),
         Order::Gen { .. } => Err(Stop::NotBuilt),
+        Order::Prove { .. } => unreachable!(),
     }
 }

@@ -83,7 +83,8 @@ pub fn words_text(alloc: Global, fault: &WordFault) -> Result<String, AllocError
     }
 }
 
-fn of_file(alloc: Global, what: &str, name: &str) -> Result<String, AllocError>
+/// What is wrong with a file, and its name.
+pub fn of_file(alloc: Global, what: &str, name: &str) -> Result<String, AllocError>
     ensures { IfOk result (λ s. string_bytes s ≡ file_report what.now name.now) }
 {
     format!(in alloc; "{what}{name}\n")
@@ -125,6 +126,7 @@ fn name_in(order: &Order, file: File) -> &str
         Order::Run { source, tests, .. } => pick(file, source.as_str(), tests.as_str(), ""),
         Order::Rank { source, tests, .. } => pick(file, source.as_str(), tests.as_str(), ""),
         Order::Gen { .. } => "",
+        Order::Prove { .. } => "",
     }
 }
 

@@ -560,3 +560,56 @@ fn nesting_is_judged(rt: HostRuntime) -> Result<(), Fail> {
     );
     Ok(())
 }
+
+// A line of words, what CNF holds, the status, the report, and whether PROOF is put.
+type Proved = (&'static str, &'static str, u8, &'static str, bool);
+
+fn is_decided(alloc: Global, row: Proved) -> Result<bool, AllocError> {
+    let (line, cnf, want, report, put) = row;
+    let mut shelf = MemShelf::new(alloc);
+    shelf.keep("f", cnf.as_bytes())?;
+    shelf.room(8, 4_096)?;
+    let status = status_of_line(alloc, line, &mut shelf)?;
+    let is_put = shelf.bytes("p").is_some();
+    Ok(status == want && shelf.printed() == report.as_bytes() && is_put == put)
+}
+
+const PROVED: [Proved; 5] = [
+    (
+        "prove f p",
+        "p cnf 2 4\n1 2 0\n-1 2 0\n1 -2 0\n-1 -2 0\n",
+        0,
+        "s UNSATISFIABLE\n",
+        true,
+    ),
+    (
+        "prove f p",
+        "p cnf 1 1\n1 0\n",
+        1,
+        "s SATISFIABLE\nv 1 0\n",
+        false,
+    ),
+    (
+        "prove f p",
+        "p cnf 1 1\n2 0\n",
+        13,
+        "cnf refused at 10\n",
+        false,
+    ),
+    (
+        "prove f f",
+        "p cnf 1 1\n1 0\n",
+        2,
+        "words refused: same name\n",
+        false,
+    ),
+    ("prove g p", "", 6, "read failed: g\n", false),
+];
+
+#[test]
+fn clauses_are_decided(rt: HostRuntime) -> Result<(), Fail> {
+    for row in PROVED {
+        assert!(rt; is_decided(rt.alloc(), row)?);
+    }
+    Ok(())
+}

@@ -1,11 +1,12 @@
 -- From what a parse found to what the words say.
-use Rattle.std.proofs.Common.{◌≡◌, ◌∙◌, List, [], ◌∷◌, Some, None, ap, drop, map, subst, Option, String, Global, string_bytes}
+use Rattle.std.proofs.Common.{◌≡◌, ◌∙◌, Bool, codes, List, [], ◌∷◌, Some, None, ap, drop, map, subst, Option, String, Global, string_bytes}
 use Rattle.std.specs.Prelude.{Result, Ok, Err, slice_get, unwrap_or}
+use Rattle.std.specs.Str.{bytes_eq}
 use Rattle.clap.specs.Words.{App, Text, first_of, found_of, rows_of}
 use Rattle.clap.specs.declared.parser.matches.ArgMatches.{ArgMatches}
-use Rattle.ax_words.specs.Commands.{Reads, repair_app}
+use Rattle.ax_words.specs.Commands.{Reads, prove_app, repair_app}
 use Rattle.ax_words.specs.Texts.{GivesTexts, HoldsTexts}
-use Rattle.ax_words.specs.Words.{IsRank, IsRepair, IsRun, JudgesNumbers, SaysRank, SaysRun, given_from, rank_fields, run_fields}
+use Rattle.ax_words.specs.Words.{IsProve, IsRank, IsRepair, IsRun, JudgesNumbers, SaysProve, SaysRank, SaysRun, given_from, have_one_name, prove_fields, rank_fields, run_fields, text_in}
 use Rattle.ax_words.specs.declared.order.WordFault.{WordFault}
 use Rattle.ax_words.specs.declared.order.WordFault.TheVariants.{BadList, BadNumber, Both, Memory, NoCommand, OutOfRange, Refused, SameName, UnknownCommand}
 use Rattle.ax_words.specs.declared.repair.RepairTexts.{RepairTexts}
@@ -66,7 +67,23 @@ rank-refused words (BadList name) is j = (is, j)
 rank-refused words Both is j = (is, j)
 rank-refused words SameName is j = (is, j)
 
+pub prove-refused : (words : List Text) (fault : WordFault) → IsProve words → JudgesNumbers (prove_fields words) (Err fault) → SaysProve words (Err fault)
+prove-refused words Memory is j = tt
+prove-refused words NoCommand is j = (is, j)
+prove-refused words UnknownCommand is j = (is, j)
+prove-refused words Refused is j = absurd j
+prove-refused words (BadNumber name) is j = (is, j)
+prove-refused words (OutOfRange name) is j = (is, j)
+prove-refused words (BadList name) is j = (is, j)
+prove-refused words Both is j = (is, j)
+prove-refused words SameName is j = absurd j
+
 pub ruleset refused_numbers = (run-refused, rank-refused)
+
+-- whether the two files have one name
+pub have-names : (words : List Text) (cnf proof : Text) (same : Bool) → text_in prove_app (codes "CNF") words ≡ Some cnf
+    → text_in prove_app (codes "PROOF") words ≡ Some proof → bytes_eq cnf proof ≡ same → have_one_name words ≡ same
+have-names words cnf proof same a b e = rw (a, b) e
 
 -- the words begin with the first of them
 pub first-word : (words : List (String Global)) (first : String Global) (text : Text) → slice_get words 0 ≡ Some first → string_bytes first ≡ text

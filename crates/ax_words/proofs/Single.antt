@@ -1,16 +1,16 @@
 -- Words say one thing: each command by its first word.
-use Rattle.std.proofs.Common.{◌≡◌, ◌∙◌, ℕ, List, [], ◌∷◌, ap, sym, refl, arith}
+use Rattle.std.proofs.Common.{◌≡◌, ◌∙◌, ℕ, false, List, [], ◌∷◌, ap, sym, refl, arith}
 use Rattle.std.specs.Prelude.{Result, Ok, Err, codes, slice_index}
 use Rattle.std.proofs.lemmas.Option.{none-some, same_Some}
 use Rattle.clap.specs.Words.{Text}
 use Rattle.ax_prog.specs.declared.Bounds.{Bounds}
 use Rattle.ax_words.specs.Laws.{OneOrder, OrdersHaveNoFault, SameChoice, SameOrder, SameRepair}
 use Rattle.ax_words.specs.Numbers.{Field}
-use Rattle.ax_words.specs.Words.{Given, IsCheck, IsChoice, IsRank, IsRepairOrder, IsRun, IsGen, JudgesNumbers, JudgesRepair, RefusesNumber, Says, SaysCheck, SaysGen, SaysRank, SaysRepair, SaysRepairOrder, SaysRun, gen_fields, given_in, picks_read, rank_fields, run_fields, nothing, unknown, repair, check, run, rank, gen}
+use Rattle.ax_words.specs.Words.{Given, IsCheck, IsChoice, IsRank, IsRepairOrder, IsRun, IsGen, IsProve, JudgesNumbers, JudgesRepair, RefusesNumber, Says, SaysCheck, SaysGen, SaysProve, SaysRank, SaysRepair, SaysRepairOrder, SaysRun, gen_fields, given_in, have_one_name, picks_read, prove_fields, rank_fields, run_fields, nothing, unknown, repair, check, run, rank, gen, prove}
 use Rattle.ax_words.specs.declared.order.Choice.{Choice}
 use Rattle.ax_words.specs.declared.order.Choice.TheVariants.{Pick, Top}
 use Rattle.ax_words.specs.declared.order.Order.{Order}
-use Rattle.ax_words.specs.declared.order.Order.TheVariants.{Check, Gen, Rank, Repair, Run}
+use Rattle.ax_words.specs.declared.order.Order.TheVariants.{Check, Gen, Prove, Rank, Repair, Run}
 use Rattle.ax_words.specs.declared.order.RepairOrder.{RepairOrder}
 use Rattle.ax_words.specs.declared.order.WordFault.{WordFault}
 use Rattle.ax_words.specs.declared.order.WordFault.TheVariants.{BadList, BadNumber, Both, Memory, NoCommand, OutOfRange, Refused, SameName, UnknownCommand}
@@ -30,48 +30,63 @@ differ words a b r s i x y e f at other = sym at ∙ ap (λ t. slice_index t i) 
 module _ (words : List Text) (r : Result Order WordFault) where
   by-repair : (rest : List Text) → words ≡ codes "repair" ∷ rest → Says words r → SaysRepairOrder words r
   by-repair rest w (nothing e f) = absurd (no-word words _ rest w e)
-  by-repair rest w (unknown word more e a b d f g h) = absurd (a (first-word words _ _ more rest e w))
+  by-repair rest w (unknown word more e a b d f g i h) = absurd (a (first-word words _ _ more rest e w))
   by-repair rest w (repair more e h) = h
   by-repair rest w (check more e h) = absurd (let z : 114 ≡ 99 = differ words (codes "repair") (codes "check") rest more 0 114 99 w e refl refl in omega arith)
   by-repair rest w (run more e h) = absurd (let z : 101 ≡ 117 = differ words (codes "repair") (codes "run") rest more 1 101 117 w e refl refl in omega arith)
   by-repair rest w (rank more e h) = absurd (let z : 101 ≡ 97 = differ words (codes "repair") (codes "rank") rest more 1 101 97 w e refl refl in omega arith)
   by-repair rest w (gen more e h) = absurd (let z : 114 ≡ 103 = differ words (codes "repair") (codes "gen") rest more 0 114 103 w e refl refl in omega arith)
+  by-repair rest w (prove more e h) = absurd (let z : 114 ≡ 112 = differ words (codes "repair") (codes "prove") rest more 0 114 112 w e refl refl in omega arith)
 
   by-check : (rest : List Text) → words ≡ codes "check" ∷ rest → Says words r → SaysCheck words r
   by-check rest w (nothing e f) = absurd (no-word words _ rest w e)
-  by-check rest w (unknown word more e a b d f g h) = absurd (b (first-word words _ _ more rest e w))
+  by-check rest w (unknown word more e a b d f g i h) = absurd (b (first-word words _ _ more rest e w))
   by-check rest w (repair more e h) = absurd (let z : 99 ≡ 114 = differ words (codes "check") (codes "repair") rest more 0 99 114 w e refl refl in omega arith)
   by-check rest w (check more e h) = h
   by-check rest w (run more e h) = absurd (let z : 99 ≡ 114 = differ words (codes "check") (codes "run") rest more 0 99 114 w e refl refl in omega arith)
   by-check rest w (rank more e h) = absurd (let z : 99 ≡ 114 = differ words (codes "check") (codes "rank") rest more 0 99 114 w e refl refl in omega arith)
   by-check rest w (gen more e h) = absurd (let z : 99 ≡ 103 = differ words (codes "check") (codes "gen") rest more 0 99 103 w e refl refl in omega arith)
+  by-check rest w (prove more e h) = absurd (let z : 99 ≡ 112 = differ words (codes "check") (codes "prove") rest more 0 99 112 w e refl refl in omega arith)
 
   by-run : (rest : List Text) → words ≡ codes "run" ∷ rest → Says words r → SaysRun words r
   by-run rest w (nothing e f) = absurd (no-word words _ rest w e)
-  by-run rest w (unknown word more e a b d f g h) = absurd (d (first-word words _ _ more rest e w))
+  by-run rest w (unknown word more e a b d f g i h) = absurd (d (first-word words _ _ more rest e w))
   by-run rest w (repair more e h) = absurd (let z : 117 ≡ 101 = differ words (codes "run") (codes "repair") rest more 1 117 101 w e refl refl in omega arith)
   by-run rest w (check more e h) = absurd (let z : 114 ≡ 99 = differ words (codes "run") (codes "check") rest more 0 114 99 w e refl refl in omega arith)
   by-run rest w (run more e h) = h
   by-run rest w (rank more e h) = absurd (let z : 117 ≡ 97 = differ words (codes "run") (codes "rank") rest more 1 117 97 w e refl refl in omega arith)
   by-run rest w (gen more e h) = absurd (let z : 114 ≡ 103 = differ words (codes "run") (codes "gen") rest more 0 114 103 w e refl refl in omega arith)
+  by-run rest w (prove more e h) = absurd (let z : 114 ≡ 112 = differ words (codes "run") (codes "prove") rest more 0 114 112 w e refl refl in omega arith)
 
   by-rank : (rest : List Text) → words ≡ codes "rank" ∷ rest → Says words r → SaysRank words r
   by-rank rest w (nothing e f) = absurd (no-word words _ rest w e)
-  by-rank rest w (unknown word more e a b d f g h) = absurd (f (first-word words _ _ more rest e w))
+  by-rank rest w (unknown word more e a b d f g i h) = absurd (f (first-word words _ _ more rest e w))
   by-rank rest w (repair more e h) = absurd (let z : 97 ≡ 101 = differ words (codes "rank") (codes "repair") rest more 1 97 101 w e refl refl in omega arith)
   by-rank rest w (check more e h) = absurd (let z : 114 ≡ 99 = differ words (codes "rank") (codes "check") rest more 0 114 99 w e refl refl in omega arith)
   by-rank rest w (run more e h) = absurd (let z : 97 ≡ 117 = differ words (codes "rank") (codes "run") rest more 1 97 117 w e refl refl in omega arith)
   by-rank rest w (rank more e h) = h
   by-rank rest w (gen more e h) = absurd (let z : 114 ≡ 103 = differ words (codes "rank") (codes "gen") rest more 0 114 103 w e refl refl in omega arith)
+  by-rank rest w (prove more e h) = absurd (let z : 114 ≡ 112 = differ words (codes "rank") (codes "prove") rest more 0 114 112 w e refl refl in omega arith)
 
   by-gen : (rest : List Text) → words ≡ codes "gen" ∷ rest → Says words r → SaysGen words r
   by-gen rest w (nothing e f) = absurd (no-word words _ rest w e)
-  by-gen rest w (unknown word more e a b d f g h) = absurd (g (first-word words _ _ more rest e w))
+  by-gen rest w (unknown word more e a b d f g i h) = absurd (g (first-word words _ _ more rest e w))
   by-gen rest w (repair more e h) = absurd (let z : 103 ≡ 114 = differ words (codes "gen") (codes "repair") rest more 0 103 114 w e refl refl in omega arith)
   by-gen rest w (check more e h) = absurd (let z : 103 ≡ 99 = differ words (codes "gen") (codes "check") rest more 0 103 99 w e refl refl in omega arith)
   by-gen rest w (run more e h) = absurd (let z : 103 ≡ 114 = differ words (codes "gen") (codes "run") rest more 0 103 114 w e refl refl in omega arith)
   by-gen rest w (rank more e h) = absurd (let z : 103 ≡ 114 = differ words (codes "gen") (codes "rank") rest more 0 103 114 w e refl refl in omega arith)
   by-gen rest w (gen more e h) = h
+  by-gen rest w (prove more e h) = absurd (let z : 103 ≡ 112 = differ words (codes "gen") (codes "prove") rest more 0 103 112 w e refl refl in omega arith)
+
+  by-prove : (rest : List Text) → words ≡ codes "prove" ∷ rest → Says words r → SaysProve words r
+  by-prove rest w (nothing e f) = absurd (no-word words _ rest w e)
+  by-prove rest w (unknown word more e a b d f g i h) = absurd (i (first-word words _ _ more rest e w))
+  by-prove rest w (repair more e h) = absurd (let z : 112 ≡ 114 = differ words (codes "prove") (codes "repair") rest more 0 112 114 w e refl refl in omega arith)
+  by-prove rest w (check more e h) = absurd (let z : 112 ≡ 99 = differ words (codes "prove") (codes "check") rest more 0 112 99 w e refl refl in omega arith)
+  by-prove rest w (run more e h) = absurd (let z : 112 ≡ 114 = differ words (codes "prove") (codes "run") rest more 0 112 114 w e refl refl in omega arith)
+  by-prove rest w (rank more e h) = absurd (let z : 112 ≡ 114 = differ words (codes "prove") (codes "rank") rest more 0 112 114 w e refl refl in omega arith)
+  by-prove rest w (gen more e h) = absurd (let z : 112 ≡ 103 = differ words (codes "prove") (codes "gen") rest more 0 112 103 w e refl refl in omega arith)
+  by-prove rest w (prove more e h) = h
 
 -- ---- one order
 
@@ -107,10 +122,12 @@ module _ (words : List Text) where
   one-repair (Repair a) (Run source' tests' steps') h k = absurd k
   one-repair (Repair a) (Rank source' tests' formula' steps') h k = absurd k
   one-repair (Repair a) (Gen n') h k = absurd k
+  one-repair (Repair a) (Prove cnf' proof' budget') h k = absurd k
   one-repair (Check source tests patched cert) b h k = absurd h
   one-repair (Run source tests steps) b h k = absurd h
   one-repair (Rank source tests formula steps) b h k = absurd h
   one-repair (Gen n) b h k = absurd h
+  one-repair (Prove cnf proof budget) b h k = absurd h
 
   one-check : (a b : Order) → SaysCheck words (Ok a) → SaysCheck words (Ok b) → SameOrder a b
   one-check (Check source tests patched cert) (Check source' tests' patched' cert') h k = (same_Some _ _ (sym h.1 ∙ k.1), same_Some _ _ (sym h.2 ∙ k.2), same_Some _ _ (sym h.3 ∙ k.3), same_Some _ _ (sym h.4 ∙ k.4))
@@ -118,10 +135,12 @@ module _ (words : List Text) where
   one-check (Check source tests patched cert) (Run source' tests' steps') h k = absurd k
   one-check (Check source tests patched cert) (Rank source' tests' formula' steps') h k = absurd k
   one-check (Check source tests patched cert) (Gen n') h k = absurd k
+  one-check (Check source tests patched cert) (Prove cnf' proof' budget') h k = absurd k
   one-check (Repair a) b h k = absurd h
   one-check (Run source tests steps) b h k = absurd h
   one-check (Rank source tests formula steps) b h k = absurd h
   one-check (Gen n) b h k = absurd h
+  one-check (Prove cnf proof budget) b h k = absurd h
 
   one-run : (a b : Order) → SaysRun words (Ok a) → SaysRun words (Ok b) → SameOrder a b
   one-run (Run source tests steps) (Run source' tests' steps') h k = (same_Some _ _ (sym h.2 ∙ k.2), same_Some _ _ (sym h.3 ∙ k.3), h.4 ∙ sym k.4)
@@ -129,10 +148,12 @@ module _ (words : List Text) where
   one-run (Run source tests steps) (Check source' tests' patched' cert') h k = absurd k
   one-run (Run source tests steps) (Rank source' tests' formula' steps') h k = absurd k
   one-run (Run source tests steps) (Gen n') h k = absurd k
+  one-run (Run source tests steps) (Prove cnf' proof' budget') h k = absurd k
   one-run (Repair a) b h k = absurd h
   one-run (Check source tests patched cert) b h k = absurd h
   one-run (Rank source tests formula steps) b h k = absurd h
   one-run (Gen n) b h k = absurd h
+  one-run (Prove cnf proof budget) b h k = absurd h
 
   one-rank : (a b : Order) → SaysRank words (Ok a) → SaysRank words (Ok b) → SameOrder a b
   one-rank (Rank source tests formula steps) (Rank source' tests' formula' steps') h k = (same_Some _ _ (sym h.2 ∙ k.2), same_Some _ _ (sym h.3 ∙ k.3), h.4 ∙ sym k.4, h.5 ∙ sym k.5)
@@ -140,10 +161,12 @@ module _ (words : List Text) where
   one-rank (Rank source tests formula steps) (Check source' tests' patched' cert') h k = absurd k
   one-rank (Rank source tests formula steps) (Run source' tests' steps') h k = absurd k
   one-rank (Rank source tests formula steps) (Gen n') h k = absurd k
+  one-rank (Rank source tests formula steps) (Prove cnf' proof' budget') h k = absurd k
   one-rank (Repair a) b h k = absurd h
   one-rank (Check source tests patched cert) b h k = absurd h
   one-rank (Run source tests steps) b h k = absurd h
   one-rank (Gen n) b h k = absurd h
+  one-rank (Prove cnf proof budget) b h k = absurd h
 
   one-gen : (a b : Order) → SaysGen words (Ok a) → SaysGen words (Ok b) → SameOrder a b
   one-gen (Gen n) (Gen n') h k = h.2 ∙ sym k.2
@@ -151,20 +174,36 @@ module _ (words : List Text) where
   one-gen (Gen n) (Check source' tests' patched' cert') h k = absurd k
   one-gen (Gen n) (Run source' tests' steps') h k = absurd k
   one-gen (Gen n) (Rank source' tests' formula' steps') h k = absurd k
+  one-gen (Gen n) (Prove cnf' proof' budget') h k = absurd k
   one-gen (Repair a) b h k = absurd h
   one-gen (Check source tests patched cert) b h k = absurd h
   one-gen (Run source tests steps) b h k = absurd h
   one-gen (Rank source tests formula steps) b h k = absurd h
+  one-gen (Prove cnf proof budget) b h k = absurd h
+
+  one-prove : (a b : Order) → SaysProve words (Ok a) → SaysProve words (Ok b) → SameOrder a b
+  one-prove (Prove cnf proof budget) (Prove cnf' proof' budget') h k = (same_Some _ _ (sym h.3 ∙ k.3), same_Some _ _ (sym h.4 ∙ k.4), h.5 ∙ sym k.5)
+  one-prove (Prove cnf proof budget) (Repair b) h k = absurd k
+  one-prove (Prove cnf proof budget) (Check source' tests' patched' cert') h k = absurd k
+  one-prove (Prove cnf proof budget) (Run source' tests' steps') h k = absurd k
+  one-prove (Prove cnf proof budget) (Rank source' tests' formula' steps') h k = absurd k
+  one-prove (Prove cnf proof budget) (Gen n') h k = absurd k
+  one-prove (Repair a) b h k = absurd h
+  one-prove (Check source tests patched cert) b h k = absurd h
+  one-prove (Run source tests steps) b h k = absurd h
+  one-prove (Rank source tests formula steps) b h k = absurd h
+  one-prove (Gen n) b h k = absurd h
 
 -- each by its command
 pub one_order : OneOrder
 one_order words a b (nothing e f) s = absurd (cc)
-one_order words a b (unknown word rest e p q r t u f) s = absurd (cc)
+one_order words a b (unknown word rest e p q r t u v f) s = absurd (cc)
 one_order words a b (repair rest w h) s = one-repair words a b h (by-repair words (Ok b) rest w s)
 one_order words a b (check rest w h) s = one-check words a b h (by-check words (Ok b) rest w s)
 one_order words a b (run rest w h) s = one-run words a b h (by-run words (Ok b) rest w s)
 one_order words a b (rank rest w h) s = one-rank words a b h (by-rank words (Ok b) rest w s)
 one_order words a b (gen rest w h) s = one-gen words a b h (by-gen words (Ok b) rest w s)
+one_order words a b (prove rest w h) s = one-prove words a b h (by-prove words (Ok b) rest w s)
 
 -- ---- no fault
 
@@ -246,12 +285,24 @@ module _ (words : List Text) where
   fine-gen Both is fine k = absurd (numbers-fine (gen_fields words) Both fine k.1)
   fine-gen SameName is fine k = absurd (numbers-fine (gen_fields words) SameName fine k.1)
 
+  fine-prove : (fault : WordFault) → IsProve words → JudgesNumbers (prove_fields words) (Ok tt) → have_one_name words ≡ false → SaysProve words (Err fault) → fault ≡ Memory
+  fine-prove Memory is fine differ k = refl
+  fine-prove Refused is fine differ k = absurd (k is)
+  fine-prove SameName is fine differ k = absurd (let z = sym differ ∙ k.2 in cc)
+  fine-prove NoCommand is fine differ k = absurd (numbers-fine (prove_fields words) NoCommand fine k.1)
+  fine-prove UnknownCommand is fine differ k = absurd (numbers-fine (prove_fields words) UnknownCommand fine k.1)
+  fine-prove (BadNumber name) is fine differ k = absurd (numbers-fine (prove_fields words) (BadNumber name) fine k.1)
+  fine-prove (OutOfRange name) is fine differ k = absurd (numbers-fine (prove_fields words) (OutOfRange name) fine k.1)
+  fine-prove (BadList name) is fine differ k = absurd (numbers-fine (prove_fields words) (BadList name) fine k.1)
+  fine-prove Both is fine differ k = absurd (numbers-fine (prove_fields words) Both fine k.1)
+
   no-fault-repair : (a : Order) (fault : WordFault) → SaysRepairOrder words (Ok a) → SaysRepairOrder words (Err fault) → fault ≡ Memory
   no-fault-repair (Repair o) fault h k = fine-repair o fault h k
   no-fault-repair (Check source tests patched cert) fault h k = absurd h
   no-fault-repair (Run source tests steps) fault h k = absurd h
   no-fault-repair (Rank source tests formula steps) fault h k = absurd h
   no-fault-repair (Gen n) fault h k = absurd h
+  no-fault-repair (Prove cnf proof budget) fault h k = absurd h
 
   no-fault-check : (a : Order) (fault : WordFault) → SaysCheck words (Ok a) → SaysCheck words (Err fault) → fault ≡ Memory
   no-fault-check (Check source tests patched cert) fault h k = fine-check fault h.0 k
@@ -259,6 +310,7 @@ module _ (words : List Text) where
   no-fault-check (Run source tests steps) fault h k = absurd h
   no-fault-check (Rank source tests formula steps) fault h k = absurd h
   no-fault-check (Gen n) fault h k = absurd h
+  no-fault-check (Prove cnf proof budget) fault h k = absurd h
 
   no-fault-run : (a : Order) (fault : WordFault) → SaysRun words (Ok a) → SaysRun words (Err fault) → fault ≡ Memory
   no-fault-run (Run source tests steps) fault h k = fine-run fault h.0 h.1 k
@@ -266,6 +318,7 @@ module _ (words : List Text) where
   no-fault-run (Check source tests patched cert) fault h k = absurd h
   no-fault-run (Rank source tests formula steps) fault h k = absurd h
   no-fault-run (Gen n) fault h k = absurd h
+  no-fault-run (Prove cnf proof budget) fault h k = absurd h
 
   no-fault-rank : (a : Order) (fault : WordFault) → SaysRank words (Ok a) → SaysRank words (Err fault) → fault ≡ Memory
   no-fault-rank (Rank source tests formula steps) fault h k = fine-rank fault h.0 h.1 k
@@ -273,6 +326,7 @@ module _ (words : List Text) where
   no-fault-rank (Check source tests patched cert) fault h k = absurd h
   no-fault-rank (Run source tests steps) fault h k = absurd h
   no-fault-rank (Gen n) fault h k = absurd h
+  no-fault-rank (Prove cnf proof budget) fault h k = absurd h
 
   no-fault-gen : (a : Order) (fault : WordFault) → SaysGen words (Ok a) → SaysGen words (Err fault) → fault ≡ Memory
   no-fault-gen (Gen n) fault h k = fine-gen fault h.0 h.1 k
@@ -280,12 +334,22 @@ module _ (words : List Text) where
   no-fault-gen (Check source tests patched cert) fault h k = absurd h
   no-fault-gen (Run source tests steps) fault h k = absurd h
   no-fault-gen (Rank source tests formula steps) fault h k = absurd h
+  no-fault-gen (Prove cnf proof budget) fault h k = absurd h
+
+  no-fault-prove : (a : Order) (fault : WordFault) → SaysProve words (Ok a) → SaysProve words (Err fault) → fault ≡ Memory
+  no-fault-prove (Prove cnf proof budget) fault h k = fine-prove fault h.0 h.1 h.2 k
+  no-fault-prove (Repair o) fault h k = absurd h
+  no-fault-prove (Check source tests patched cert) fault h k = absurd h
+  no-fault-prove (Run source tests steps) fault h k = absurd h
+  no-fault-prove (Rank source tests formula steps) fault h k = absurd h
+  no-fault-prove (Gen n) fault h k = absurd h
 
 pub orders_have_no_fault : OrdersHaveNoFault
 orders_have_no_fault words a fault (nothing e f) s = absurd (cc)
-orders_have_no_fault words a fault (unknown word rest e p q r t u f) s = absurd (cc)
+orders_have_no_fault words a fault (unknown word rest e p q r t u v f) s = absurd (cc)
 orders_have_no_fault words a fault (repair rest w h) s = no-fault-repair words a fault h (by-repair words (Err fault) rest w s)
 orders_have_no_fault words a fault (check rest w h) s = no-fault-check words a fault h (by-check words (Err fault) rest w s)
 orders_have_no_fault words a fault (run rest w h) s = no-fault-run words a fault h (by-run words (Err fault) rest w s)
 orders_have_no_fault words a fault (rank rest w h) s = no-fault-rank words a fault h (by-rank words (Err fault) rest w s)
 orders_have_no_fault words a fault (gen rest w h) s = no-fault-gen words a fault h (by-gen words (Err fault) rest w s)
+orders_have_no_fault words a fault (prove rest w h) s = no-fault-prove words a fault h (by-prove words (Err fault) rest w s)

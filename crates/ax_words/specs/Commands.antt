@@ -1,4 +1,4 @@
--- The five commands, as `clap` takes them.
+-- The six commands, as `clap` takes them.
 use Rattle.std.specs.Prelude.{◌≡◌, ◌≢◌, List, [], ◌∷◌, Some, true, codes, Result, Ok, Err}
 use Rattle.clap.specs.Words.{App, Rule, Text, fault_of, found_of, is_simple, is_simple_and_free, matches_of, new_app, new_rule, rows_of, with_rule}
 use Rattle.clap.specs.declared.builder.action.ArgAction.TheVariants.{Set}
@@ -38,6 +38,9 @@ rank_app = with_options (with_places (new_app (codes "rank")) (codes "SOURCE" �
 
 abbrev pub gen_app : App
 gen_app = with_places (new_app (codes "gen")) (codes "N" ∷ [])
+
+abbrev pub prove_app : App
+prove_app = with_options (with_places (new_app (codes "prove")) (codes "CNF" ∷ codes "PROOF" ∷ [])) (codes "budget" ∷ [])
 
 -- a command whose matches and faults are told
 abbrev pub IsSimpleApp : App → Type 0

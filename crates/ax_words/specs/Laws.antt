@@ -4,7 +4,7 @@ use Rattle.clap.specs.Words.{Text}
 use Rattle.ax_words.specs.declared.order.Choice.{Choice}
 use Rattle.ax_words.specs.declared.order.Choice.TheVariants.{Pick, Top}
 use Rattle.ax_words.specs.declared.order.Order.{Order}
-use Rattle.ax_words.specs.declared.order.Order.TheVariants.{Check, Gen, Rank, Repair, Run}
+use Rattle.ax_words.specs.declared.order.Order.TheVariants.{Check, Gen, Prove, Rank, Repair, Run}
 use Rattle.ax_words.specs.declared.order.RepairOrder.{RepairOrder}
 use Rattle.ax_words.specs.declared.order.WordFault.{WordFault}
 use Rattle.ax_words.specs.declared.order.WordFault.TheVariants.{Memory}
@@ -39,6 +39,8 @@ SameOrder (Rank source tests formula steps) (Rank other_source other_tests other
     (string_bytes source ≡ string_bytes other_source) × (string_bytes tests ≡ string_bytes other_tests)
     × (string_bytes formula ≡ string_bytes other_formula) × (steps ≡ other_steps)
 SameOrder (Gen n) (Gen m) = n ≡ m
+SameOrder (Prove cnf proof budget) (Prove other_cnf other_proof other_budget) =
+    (string_bytes cnf ≡ string_bytes other_cnf) × (string_bytes proof ≡ string_bytes other_proof) × (budget ≡ other_budget)
 SameOrder _ _ = ⊥
 
 -- ---- laws

@@ -3,13 +3,13 @@ use Rattle.std.specs.Prelude.{◌≡◌, ◌≢◌, ◌&&◌, ◌||◌, ℕ, Boo
 use Rattle.std.specs.Str.{bytes_eq}
 use Rattle.clap.specs.Words.{App, Text, fault_of, first_of, matches_of}
 use Rattle.ax_prog.specs.declared.Sets.{Sets}
-use Rattle.ax_words.specs.Commands.{check_app, gen_app, rank_app, repair_app, run_app}
+use Rattle.ax_words.specs.Commands.{check_app, gen_app, prove_app, rank_app, repair_app, run_app}
 use Rattle.ax_words.specs.Lists.{picks_of, sets_of}
 use Rattle.ax_words.specs.Numbers.{Field, first_of_kind, is_misread, is_off_range, value_of}
 use Rattle.ax_words.specs.declared.order.Choice.{Choice}
 use Rattle.ax_words.specs.declared.order.Choice.TheVariants.{Pick, Top}
 use Rattle.ax_words.specs.declared.order.Order.{Order}
-use Rattle.ax_words.specs.declared.order.Order.TheVariants.{Check, Gen, Rank, Repair, Run}
+use Rattle.ax_words.specs.declared.order.Order.TheVariants.{Check, Gen, Prove, Rank, Repair, Run}
 use Rattle.ax_words.specs.declared.order.RepairOrder.{RepairOrder}
 use Rattle.ax_words.specs.declared.order.WordFault.{WordFault}
 use Rattle.ax_words.specs.declared.order.WordFault.TheVariants.{BadList, BadNumber, Both, Memory, NoCommand, OutOfRange, Refused, SameName, UnknownCommand}
@@ -20,6 +20,9 @@ text_in app id words = first_of id (matches_of app words)
 
 abbrev pub steps_field : Option Text → Field
 steps_field text = record { name = codes "--steps"; text = text; least = 1; most = 1000000; default = 10000 }
+
+abbrev pub budget_of : Option Text → Field
+budget_of text = record { name = codes "--budget"; text = text; least = 1; most = 1000000; default = 100000 }
 
 -- numbers are judged first: none is misread, and then none is out of its range
 abbrev pub JudgesNumbers : List Field → Result (Unit {0}) WordFault → Type 0
@@ -83,7 +86,7 @@ abbrev pub paths_field : Given → Field
 paths_field g = record { name = codes "--paths"; text = g.paths; least = 1; most = 4096; default = 256 }
 
 abbrev pub budget_field : Given → Field
-budget_field g = record { name = codes "--budget"; text = g.budget; least = 1; most = 1000000; default = 100000 }
+budget_field g = budget_of g.budget
 
 -- in the order in which they are judged
 abbrev pub repair_fields : Given → List Field
@@ -190,6 +193,9 @@ IsRank words = (fault_of rank_app words ≡ []) × IsSome (text_in rank_app (cod
 abbrev pub IsGen : List Text → Type 0
 IsGen words = (fault_of gen_app words ≡ []) × IsSome (text_in gen_app (codes "N") words)
 
+abbrev pub IsProve : List Text → Type 0
+IsProve words = (fault_of prove_app words ≡ []) × IsSome (text_in prove_app (codes "CNF") words) × IsSome (text_in prove_app (codes "PROOF") words)
+
 abbrev pub run_fields : List Text → List Field
 run_fields words = steps_field (text_in run_app (codes "steps") words) ∷ []
 
@@ -245,6 +251,25 @@ SaysGen words (Err Memory) = Unit {0}
 SaysGen words (Err Refused) = ¬ (IsGen words)
 SaysGen words (Err fault) = IsGen words × RefusesNumber (gen_fields words) fault
 
+abbrev pub prove_fields : List Text → List Field
+prove_fields words = budget_of (text_in prove_app (codes "budget") words) ∷ []
+
+-- the two files of `prove` have one name
+abbrev pub have_one_name : List Text → Bool
+have_one_name words = is_same (text_in prove_app (codes "CNF") words) (text_in prove_app (codes "PROOF") words)
+
+-- the number is judged before the names
+abbrev pub SaysProve : List Text → Result Order WordFault → Type 0
+SaysProve words (Ok (Prove cnf proof budget)) = IsProve words × JudgesNumbers (prove_fields words) (Ok tt) × (have_one_name words ≡ false)
+    × (text_in prove_app (codes "CNF") words ≡ Some (string_bytes cnf))
+    × (text_in prove_app (codes "PROOF") words ≡ Some (string_bytes proof))
+    × (budget ≡ value_of (budget_of (text_in prove_app (codes "budget") words)))
+SaysProve words (Ok other) = ⊥
+SaysProve words (Err Memory) = Unit {0}
+SaysProve words (Err Refused) = ¬ (IsProve words)
+SaysProve words (Err SameName) = IsProve words × JudgesNumbers (prove_fields words) (Ok tt) × (have_one_name words ≡ true)
+SaysProve words (Err fault) = IsProve words × RefusesNumber (prove_fields words) fault
+
 -- the order `repair` among the orders
 abbrev pub SaysRepairOrder : List Text → Result Order WordFault → Type 0
 SaysRepairOrder words (Ok (Repair o)) = SaysRepair words (Ok o)
@@ -255,10 +280,11 @@ SaysRepairOrder words (Err fault) = SaysRepair words (Err fault)
 pub data Says (words : List Text) (result : Result Order WordFault) : Type 0 where
   nothing : words ≡ [] → result ≡ Err NoCommand → Says words result
   unknown : (word : Text) (rest : List Text) → words ≡ word ∷ rest
-      → word ≢ codes "repair" → word ≢ codes "check" → word ≢ codes "run" → word ≢ codes "rank" → word ≢ codes "gen"
+      → word ≢ codes "repair" → word ≢ codes "check" → word ≢ codes "run" → word ≢ codes "rank" → word ≢ codes "gen" → word ≢ codes "prove"
       → result ≡ Err UnknownCommand → Says words result
   repair : (rest : List Text) → words ≡ codes "repair" ∷ rest → SaysRepairOrder words result → Says words result
   check : (rest : List Text) → words ≡ codes "check" ∷ rest → SaysCheck words result → Says words result
   run : (rest : List Text) → words ≡ codes "run" ∷ rest → SaysRun words result → Says words result
   rank : (rest : List Text) → words ≡ codes "rank" ∷ rest → SaysRank words result → Says words result
   gen : (rest : List Text) → words ≡ codes "gen" ∷ rest → SaysGen words result → Says words result
+  prove : (rest : List Text) → words ≡ codes "prove" ∷ rest → SaysProve words result → Says words result

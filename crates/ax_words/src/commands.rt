@@ -1,7 +1,7 @@
 //! The commands as `clap` knows them, and the texts that they read.
 ghost use Rattle.std.specs.Prelude.{◌≡◌, ◌≢◌, ◌⊎◌, [], IfOk, IfErr, map, string_bytes, codes, option_map, true};
 ghost use Rattle.clap.specs.Words.{app_of, fault_of, first_of, found_of, is_simple, is_simple_and_free, rows_of, matches_of, new_app, with_rule};
-ghost use Rattle.ax_words.specs.Commands.{place, option, repair_app, check_app, run_app, rank_app, gen_app, IsSimpleApp, Reads};
+ghost use Rattle.ax_words.specs.Commands.{place, option, repair_app, check_app, run_app, rank_app, gen_app, prove_app, IsSimpleApp, Reads};
 ghost use Rattle.ax_words.specs.declared.order.WordFault.TheVariants.{Memory, Refused};
 
 use crate::WordFault;
@@ -119,5 +119,16 @@ pub fn gen_command<'a>(alloc: Global) -> Result<Command<'a>, AllocError>
 {
     let command = Command::new(alloc, "gen");
     let command = with_place(alloc, command, "N")?;
+    Ok(command)
+}
+
+/// The command `prove`.
+pub fn prove_command<'a>(alloc: Global) -> Result<Command<'a>, AllocError>
+    ensures { IfOk result (λ c. app_of c ≡ prove_app) }
+{
+    let command = Command::new(alloc, "prove");
+    let command = with_place(alloc, command, "CNF")?;
+    let command = with_place(alloc, command, "PROOF")?;
+    let command = with_option(alloc, command, "budget")?;
     Ok(command)
 }

@@ -6,6 +6,7 @@ mod laws;
 mod lists;
 mod numbers;
 mod order;
+mod prove;
 mod read;
 mod repair;
 #[cfg(test)]

@@ -1,7 +1,7 @@
 //! Options whose text is a number.
 ghost use Rattle.std.specs.Prelude.{◌≡◌, ◌≤◌, ◌<◌, ◌^◌, ℕ, option_map, map, false, None};
 ghost use Rattle.ax_words.specs.Numbers.{number_of, field_of, first_of_kind, is_misread, is_off_range, value_of, is_number};
-ghost use Rattle.ax_words.specs.Words.{JudgesNumbers, steps_field};
+ghost use Rattle.ax_words.specs.Words.{JudgesNumbers, budget_of, steps_field};
 ghost use Rattle.std.specs.Char.{is_ascii_digit};
 ghost use Rattle.std.specs.List.{list_all};
 
@@ -123,6 +123,19 @@ pub fn steps_option<'a>(text: Option<&'a str>) -> NumberOption<'a>
         least: 1,
         most: 1_000_000,
         default: 10_000,
+    }
+}
+
+/// `--budget`, the bound on the lines of a proof.
+pub fn budget_option<'a>(text: Option<&'a str>) -> NumberOption<'a>
+    ensures { field_of result ≡ budget_of (option_map (λ s. s.now) text.entry) }
+{
+    NumberOption {
+        name: "--budget",
+        text,
+        least: 1,
+        most: 1_000_000,
+        default: 100_000,
     }
 }
 

@@ -28,6 +28,11 @@ pub enum Order {
     Gen {
         n: u32,
     },
+    Prove {
+        cnf: String,
+        proof: String,
+        budget: u32,
+    },
 }
 
 /// The order `repair`: its four files, which expressions are chosen, and its bounds.
@@ -66,7 +71,7 @@ pub enum WordFault {
     BadList(String),
     /// `--pick` beside `--top` or `--formula`.
     Both,
-    /// Two of the four files of `repair` have one name.
+    /// Two of the four files of `repair`, or the two of `prove`, have one name.
     SameName,
 }
 

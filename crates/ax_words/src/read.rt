@@ -6,6 +6,7 @@ ghost use Rattle.ax_words.specs.Words.{Says, SaysCheck, SaysGen, SaysRank, SaysR
 
 use crate::commands::{check_command, gen_command, matched, rank_command, run_command, text_of};
 use crate::numbers::{NumberOption, judge_numbers, steps_option, value};
+use crate::prove::read_prove;
 use crate::repair::read_repair;
 use crate::{Order, WordFault};
 use clap::ArgMatches;
@@ -179,6 +180,8 @@ pub fn read_words(alloc: Global, words: &[String]) -> Result<Order, WordFault>
         read_rank(alloc, words)
     } else if command == "gen" {
         read_gen(alloc, words)
+    } else if command == "prove" {
+        read_prove(alloc, words)
     } else {
         Err(WordFault::UnknownCommand)
     }

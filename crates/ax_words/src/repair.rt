@@ -2,12 +2,12 @@
 ghost use Rattle.std.specs.Prelude.{◌≡◌, ◌⊎◌, [], IfOk, IfErr, map, string_bytes, option_map, false, is_some, MatchResult, None, Some, true};
 ghost use Rattle.clap.specs.Words.{first_of, found_of, rows_of};
 ghost use Rattle.ax_words.specs.Numbers.{field_of, first_of_kind, is_misread, is_off_range, value_of};
-ghost use Rattle.ax_words.specs.Words.{IsChoice, IsRepair, IsRepairOrder, JudgesNumbers, JudgesRepair, SaysRepair, bad_list_in, given_from, given_in, have_same_name, picks_read, repair_fields, sets_read, are_both, budget_field, evals_field, grow_field, paths_field, steps_field, top_field};
+ghost use Rattle.ax_words.specs.Words.{IsChoice, IsRepair, IsRepairOrder, JudgesNumbers, JudgesRepair, SaysRepair, bad_list_in, given_from, given_in, have_same_name, picks_read, repair_fields, sets_read, are_both, evals_field, grow_field, paths_field, steps_field, top_field};
 ghost use Rattle.ax_words.specs.Texts.{GivesTexts, HoldsTexts, PicksRead, SetsRead, given_of};
 
 use crate::commands::{matched, repair_command, text_of};
 use crate::lists::{no_set, picks_in, sets_in};
-use crate::numbers::{NumberOption, judge_numbers, steps_option, value};
+use crate::numbers::{NumberOption, budget_option, judge_numbers, steps_option, value};
 use crate::{Choice, RepairOrder, WordFault};
 use ax_prog::{Bounds, Sets};
 use clap::ArgMatches;
@@ -127,18 +127,6 @@ fn paths_option<'a>(texts: &RepairTexts<'a>) -> NumberOption<'a>
     }
 }
 
-fn budget_option<'a>(texts: &RepairTexts<'a>) -> NumberOption<'a>
-    ensures { field_of result ≡ budget_field (given_of texts.now) }
-{
-    NumberOption {
-        name: "--budget",
-        text: texts.budget,
-        least: 1,
-        most: 1_000_000,
-        default: 100_000,
-    }
-}
-
 // The options that are numbers, in the order in which they are judged.
 fn numbers_of<'a>(texts: &RepairTexts<'a>) -> [NumberOption<'a>; 6]
     ensures { map field_of result ≡ repair_fields (given_of texts.now) }
@@ -149,7 +137,7 @@ fn numbers_of<'a>(texts: &RepairTexts<'a>) -> [NumberOption<'a>; 6]
         steps_option(texts.steps),
         evals_option(texts),
         paths_option(texts),
-        budget_option(texts),
+        budget_option(texts.budget),
     ]
 }
 
@@ -271,7 +259,7 @@ fn order_with(
         sets,
         bounds: bounds_of(texts),
         paths: value(&paths_option(texts)),
-        budget: value(&budget_option(texts)),
+        budget: value(&budget_option(texts.budget)),
     })
 }
 

@@ -40,6 +40,7 @@ fn told(alloc: Global, read: Result<Order, WordFault>) -> Result<String, AllocEr
         Ok(Order::Run { steps, .. }) => format!(in alloc; "run {steps}"),
         Ok(Order::Rank { formula, .. }) => format!(in alloc; "rank {formula}"),
         Ok(Order::Gen { n }) => format!(in alloc; "gen {n}"),
+        Ok(Order::Prove { budget, .. }) => format!(in alloc; "prove {budget}"),
         Err(WordFault::Memory) => String::from_str(alloc, "memory"),
         Err(WordFault::NoCommand) => String::from_str(alloc, "no command"),
         Err(WordFault::UnknownCommand) => String::from_str(alloc, "unknown command"),
@@ -52,7 +53,7 @@ fn told(alloc: Global, read: Result<Order, WordFault>) -> Result<String, AllocEr
     }
 }
 
-const ROWS: [(&str, &str); 27] = [
+const ROWS: [(&str, &str); 32] = [
     ("", "no command"),
     ("mend s t", "unknown command"),
     ("repair s t o", "refused"),
@@ -92,6 +93,11 @@ const ROWS: [(&str, &str); 27] = [
     ("run s t", "run 10000"),
     ("rank s t --formula ochiai", "rank ochiai"),
     ("gen 1000000", "gen 1000000"),
+    ("prove c p", "prove 100000"),
+    ("prove c p --budget 1", "prove 1"),
+    ("prove c", "refused"),
+    ("prove c c", "same name"),
+    ("prove c c --budget 0", "out of range --budget"),
 ];
 
 #[test]

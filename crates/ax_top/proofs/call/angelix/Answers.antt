@@ -1,7 +1,8 @@
 use Rattle.ax_top.proofs.Completing.{complete}
-use Rattle.ax_top.proofs.Grown.{grows-little}
+use Rattle.ax_top.proofs.Grown.{grows-little, proves-some}
 use Rattle.ax_top.proofs.Promises.{headline, keeps}
-use Rattle.ax_top.proofs.Rows.{answered-does, refused-does, stopped-does}
+use Rattle.ax_top.proofs.Proofs.{proving}
+use Rattle.ax_top.proofs.Rows.{answered-does, proves-does, refused-does, stopped-does}
 use Rattle.ax_top.proofs.call.angelix.Goals as goal
 
 pub returns-in-Err-clause-does : goal.returns-in-Err-clause-does
@@ -40,5 +41,29 @@ returns-clause-complete g c = complete _ _ _ _ _ (returns-clause-does g c)
 pub returns-clause-keeps : goal.returns-clause-keeps
 returns-clause-keeps g c = keeps _ _ _ _ _ (returns-clause-does g c)
 
-pub result_of-requires : goal.result_of-requires
-result_of-requires g c = grows-little _ c.in-Ok.order c.in-Ok.ensures
+pub returns-clause-proving : goal.returns-clause-proving
+returns-clause-proving g c = proving _ _ _ _ _ (returns-clause-does g c)
+
+pub returns-in-Err-result_of-clause-proving : goal.returns-in-Err-result_of-clause-proving
+returns-in-Err-result_of-clause-proving g c = proving _ _ _ _ _ (returns-in-Err-result_of-clause-does g c)
+
+pub returns-in-Ok-Prove-clause-does : goal.returns-in-Ok-Prove-clause-does
+returns-in-Ok-Prove-clause-does g c =
+    proves-does (g.S.Shelf.seen c.args.shelf.now) (g.S.Shelf.seen c.prove.new.shelf) c.deref.result.now c.args.words.items
+    c.deref.ensures.value c.prove.result _ c.in-Ok-Prove.cnf c.in-Ok-Prove.proof c.in-Ok-Prove.budget (rw (← c.in-Ok-Prove.field-0-is) c.in-Ok-Prove.ensures)
+    c.as_str.result.now c.as_str-in-Ok-Prove.result.now c.as_str.ensures.value c.as_str-in-Ok-Prove.ensures.value c.prove.ensures
+
+pub returns-in-Ok-Prove-clause-headline : goal.returns-in-Ok-Prove-clause-headline
+returns-in-Ok-Prove-clause-headline g c = headline _ _ _ _ _ (returns-in-Ok-Prove-clause-does g c)
+
+pub returns-in-Ok-Prove-clause-complete : goal.returns-in-Ok-Prove-clause-complete
+returns-in-Ok-Prove-clause-complete g c = complete _ _ _ _ _ (returns-in-Ok-Prove-clause-does g c)
+
+pub returns-in-Ok-Prove-clause-proving : goal.returns-in-Ok-Prove-clause-proving
+returns-in-Ok-Prove-clause-proving g c = proving _ _ _ _ _ (returns-in-Ok-Prove-clause-does g c)
+
+pub returns-in-Ok-Prove-clause-keeps : goal.returns-in-Ok-Prove-clause-keeps
+returns-in-Ok-Prove-clause-keeps g c = keeps _ _ _ _ _ (returns-in-Ok-Prove-clause-does g c)
+
+pub result_of-requires-clause-grows : goal.result_of-requires-clause-grows
+result_of-requires-clause-grows g c = grows-little _ c.in-Ok.order c.in-Ok.ensures
