@@ -163,14 +163,21 @@ fn bases_grow(rt: HostRuntime) -> Result<(), Fail> {
     Ok(())
 }
 
+/// That this pigeon of seven, from 0, is in this hole of six, from 1, or that it isn't.
+fn housing(rt: &impl Abort, pigeon: u64, hole: u64, is_in: bool) -> Lit {
+    assert!(rt; pigeon < 7);
+    assert!(rt; hole >= 1);
+    assert!(rt; hole <= 6);
+    Lit::new(pigeon * 6 + hole, is_in)
+}
+
 /// No two of seven pigeons in this hole of six.
-fn apart(rt: &impl Abort, alloc: Global, hole: i32, clauses: &mut Vec<Clause>) -> Result<(), Fail> {
-    assert!(rt; hole > 0 && hole <= 6);
+fn apart(rt: &impl Abort, alloc: Global, hole: u64, clauses: &mut Vec<Clause>) -> Result<(), Fail> {
     for first in 0..7 {
         for second in 0..first {
             let lits = [
-                literal(rt, -(first * 6 + hole)),
-                literal(rt, -(second * 6 + hole)),
+                housing(rt, first, hole, false),
+                housing(rt, second, hole, false),
             ];
             clauses.push(Clause::from_lits(alloc, lits.as_slice())?.ok_or("a clash")?)?;
         }
@@ -184,7 +191,7 @@ fn housed(rt: &impl Abort, alloc: Global) -> Result<Vec<Clause>, Fail> {
     for pigeon in 0..7 {
         let mut lits = Vec::new(alloc);
         for hole in 1..7 {
-            lits.push(literal(rt, pigeon * 6 + hole))?;
+            lits.push(housing(rt, pigeon, hole, true))?;
         }
         clauses.push(Clause::from_lits(alloc, lits.as_slice())?.ok_or("a clash")?)?;
     }
