@@ -5,8 +5,6 @@ pub mod expressions;
 pub mod faults;
 mod leaves;
 mod nodes;
-#[cfg(test)]
-mod tests;
 pub mod tokens;
 
 pub use expressions::{args, postfix, unary, whole, whole_until};

@@ -17,8 +17,6 @@ ghost use Rattle.ax_grammar.specs.Rows.{AndBelowEqual, MinusFromTheLeft, CondFro
 pub mod operators;
 pub mod starts;
 pub mod terminals;
-#[cfg(test)]
-mod tests;
 pub mod tree;
 
 /// A token list spells at most one expression (a law).

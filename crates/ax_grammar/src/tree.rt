@@ -9,7 +9,7 @@ use ax_prog::{Bin, Span};
 use sqlite_items::{Boxed, Items};
 
 /// A name, where it stands.
-#[derive(Debug, Drop)]
+#[derive(Drop)]
 pub struct Name {
     pub span: Span,
     pub text: Items<u8>,
@@ -26,7 +26,7 @@ pub enum Prefix {
 }
 
 /// An expression (C11 6.5).
-#[derive(Debug, Drop)]
+#[derive(Drop)]
 pub enum Expr {
     Name(Span, Items<u8>),
     Number(Span, i32),
@@ -45,14 +45,14 @@ pub enum Expr {
 }
 
 /// `int`, or `struct` and its tag.
-#[derive(Debug, Drop)]
+#[derive(Drop)]
 pub enum Base {
     Int(Span),
     Struct(Span, Name),
 }
 
 /// What a function returns, stars aside.
-#[derive(Debug, Drop)]
+#[derive(Drop)]
 pub enum Returns {
     Void(Span),
     Of(Base),
@@ -66,7 +66,7 @@ pub struct Size {
 }
 
 /// A declarator: `stars` many `*`, the name and the sizes.
-#[derive(Debug, Drop)]
+#[derive(Drop)]
 pub struct Declarator {
     pub span: Span,
     pub stars: usize,
@@ -83,7 +83,7 @@ pub struct Signed {
 }
 
 /// What a declarator is initialised by.
-#[derive(Debug, Drop)]
+#[derive(Drop)]
 pub enum Initialiser {
     Nothing,
     Value(Expr),
@@ -91,7 +91,7 @@ pub enum Initialiser {
 }
 
 /// A declarator with its initialiser.
-#[derive(Debug, Drop)]
+#[derive(Drop)]
 pub struct Declared {
     pub span: Span,
     pub declarator: Declarator,
@@ -99,7 +99,7 @@ pub struct Declared {
 }
 
 /// `int a, *b = 0;`
-#[derive(Debug, Drop)]
+#[derive(Drop)]
 pub struct Decl {
     pub span: Span,
     pub base: Base,
@@ -107,7 +107,7 @@ pub struct Decl {
 }
 
 /// A parameter. One without a name stands in prototypes.
-#[derive(Debug, Drop)]
+#[derive(Drop)]
 pub struct Param {
     pub span: Span,
     pub base: Base,
@@ -117,7 +117,7 @@ pub struct Param {
 }
 
 /// The head of a function.
-#[derive(Debug, Drop)]
+#[derive(Drop)]
 pub struct Head {
     pub span: Span,
     pub returns: Returns,
@@ -127,7 +127,7 @@ pub struct Head {
 }
 
 /// A statement without its `;`, which may also stand in the head of a `for`.
-#[derive(Debug, Drop)]
+#[derive(Drop)]
 pub enum Simple {
     /// `a = b`
     Assign(Span, Expr, Expr),
@@ -139,7 +139,7 @@ pub enum Simple {
 }
 
 /// How a `for` begins.
-#[derive(Debug, Drop)]
+#[derive(Drop)]
 pub enum Opening {
     Nothing,
     Simple(Simple),
@@ -147,7 +147,7 @@ pub enum Opening {
 }
 
 /// An item of a block: a statement (C11 6.8) or a declaration.
-#[derive(Debug, Drop)]
+#[derive(Drop)]
 pub enum Stmt {
     Empty(Span),
     Block(Span, Items<Stmt>),
@@ -168,7 +168,7 @@ pub enum Stmt {
 }
 
 /// Members of one base in a struct.
-#[derive(Debug, Drop)]
+#[derive(Drop)]
 pub struct Members {
     pub span: Span,
     pub base: Base,
@@ -176,7 +176,7 @@ pub struct Members {
 }
 
 /// What stands at the top of a source.
-#[derive(Debug, Drop)]
+#[derive(Drop)]
 pub enum Part {
     Struct(Span, Name, Items<Members>),
     Decl(Decl),
@@ -185,7 +185,7 @@ pub enum Part {
 }
 
 /// A source.
-#[derive(Debug, Drop)]
+#[derive(Drop)]
 pub struct Tree {
     pub span: Span,
     pub parts: Items<Part>,

@@ -1,0 +1,5 @@
+mod Layers
+mod Counted
+mod Passed
+mod Quiet
+mod Found
