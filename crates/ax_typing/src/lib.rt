@@ -47,14 +47,14 @@ pub struct TypeFault {
 
 /// What a name denotes (C11 6.2.1): a variable with its type, or a function, by its place among the functions that
 /// the file declares, from 0.
-#[derive(Debug, Drop)]
+#[derive(Drop)]
 pub enum Entity {
     Variable(VarId, Ty),
     Function(u32),
 }
 
 /// A name in scope. In a list of names the innermost stands last.
-#[derive(Debug, Drop)]
+#[derive(Drop)]
 pub struct Entry {
     pub name: Items<u8>,
     pub entity: Entity,
@@ -62,7 +62,7 @@ pub struct Entry {
 
 /// What an expression means: a number, with its atoms in source order and where they stand; a pointer to an object of
 /// this type; or a place with its type.
-#[derive(Debug, Drop)]
+#[derive(Drop)]
 pub enum Typed {
     Int(Expr, Items<(Atom, Span)>),
     Ptr(Ty, Pexpr),

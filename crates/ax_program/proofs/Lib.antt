@@ -1,0 +1,15 @@
+pub mod Steps
+pub mod Numbers
+pub mod Offered
+pub mod Called
+pub mod Objects
+pub mod Initials
+pub mod Variables
+pub mod Simples
+pub mod Bodies
+pub mod Outcomes
+pub mod Laws
+pub mod Heads
+pub mod Sources
+pub mod WorkedSources
+pub mod Carried

@@ -1,0 +1,13 @@
+pub mod States
+pub mod Values
+pub mod Declarations
+pub mod Statements
+pub mod Functions
+pub mod Programs
+pub mod ValueFaults
+pub mod ValueWalk
+pub mod StatementWalk
+pub mod StatementFaults
+pub mod FileFaults
+pub mod FileWalk
+pub mod Slots

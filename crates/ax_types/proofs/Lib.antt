@@ -1,0 +1,13 @@
+pub mod Tags
+pub mod Exactness
+pub mod Sized
+pub mod Declared
+pub mod Counts
+pub mod Variables
+pub mod Found
+pub mod Definitions
+pub mod Measured
+pub mod Adjusted
+pub mod Functions
+pub mod Agreeing
+pub mod Single

@@ -1,0 +1,11 @@
+pub mod Firsts
+pub mod Denotations
+pub mod Breaks
+pub mod Cells
+pub mod Verdicts
+pub mod Structs
+pub mod Members
+pub mod Heads
+pub mod Signatures
+pub mod Agreement
+pub mod Alike
