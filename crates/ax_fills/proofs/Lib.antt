@@ -1,0 +1,15 @@
+pub mod Grown
+pub mod Added
+pub mod Words
+pub mod Meanings
+pub mod Types
+pub mod Numbers
+pub mod Values
+pub mod Declared
+pub mod Simples
+pub mod Statements
+pub mod Bodies
+pub mod Files
+pub mod Sources
+pub mod Written
+pub mod Atoms

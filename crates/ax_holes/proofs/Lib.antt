@@ -1,0 +1,10 @@
+pub mod Following
+pub mod Layers
+pub mod Expressions
+pub mod Declarations
+pub mod Statements
+pub mod Sources
+pub mod Finding
+pub mod Looks
+pub mod Values
+pub mod Bodies
