@@ -11,7 +11,7 @@ use ax_prog::{Arg, Bin, FunId, Init, Lval, Pexpr, SlotId, VarId};
 use sqlite_items::Items;
 
 /// The right side of an assignment, or what a `return` gives. `Last` is the value of the last call.
-#[derive(Debug, Drop)]
+#[derive(Drop)]
 pub enum Rhs {
     Int(SlotId),
     Ptr(Pexpr),
@@ -20,7 +20,7 @@ pub enum Rhs {
 
 /// An op. Places are counted from 0 over all code. `Keep`, `Fall`, `Jump` and `End` take no step, and each other op takes
 /// one.
-#[derive(Debug, Drop)]
+#[derive(Drop)]
 pub enum Op {
     /// A declaration; its initialiser holds no call.
     Decl(VarId, Init),
@@ -49,7 +49,7 @@ pub enum Op {
 
 /// A caller that waits: its function, the place where it goes on, how many objects stood when it called, and what its
 /// variables named.
-#[derive(Debug, Drop)]
+#[derive(Drop)]
 pub struct Frame {
     pub fun: FunId,
     pub back: usize,
@@ -58,7 +58,7 @@ pub struct Frame {
 }
 
 /// An op, or the jump of a `break` or `continue` that doesn't know its place yet.
-#[derive(Debug, Drop)]
+#[derive(Drop)]
 pub enum Draft {
     Made(Op),
     Breaks,

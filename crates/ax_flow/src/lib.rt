@@ -6,7 +6,5 @@ mod lowering;
 mod ops;
 mod places;
 mod statements;
-#[cfg(test)]
-mod tests;
 
 pub use flow::{Flow, lower};

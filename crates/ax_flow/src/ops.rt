@@ -15,8 +15,9 @@ use std::alloc::{AllocError, Global};
 pub fn single(alloc: Global, op: Op) -> Result<Items<Draft>, AllocError>
     ensures { IfOk result (λ it. it ≡ Made op ∷ []) }
 {
+    let draft = Draft::Made(op);
     let mut code = Items::new(alloc);
-    code.push(Draft::Made(op))?;
+    code.push(draft)?;
     Ok(code)
 }
 

@@ -72,7 +72,7 @@ pub struct Extent {
 
 /// The cells of all objects in order of their beginning, the objects by their numbers, and the object that each
 /// variable names now.
-#[derive(Debug, Drop)]
+#[derive(Drop)]
 pub struct Store {
     pub cells: Items<Cell>,
     pub objects: Items<Extent>,
@@ -81,7 +81,7 @@ pub struct Store {
 
 /// What an open run notes: the truth value of a condition, or an evaluation of a chosen expression and the store in
 /// which it began.
-#[derive(Debug, Drop)]
+#[derive(Drop)]
 pub enum Note {
     Met(bool),
     Took(SlotId, Store),
@@ -89,7 +89,7 @@ pub enum Note {
 
 /// A run so far: the store, the inputs left, the numbers printed, the steps used and the evaluations begun of each
 /// slot. A plain run notes nothing.
-#[derive(Debug, Drop)]
+#[derive(Drop)]
 pub struct State {
     pub store: Store,
     pub inputs: Items<i32>,
@@ -107,7 +107,7 @@ pub enum Stop {
 }
 
 /// How a run ended, with the numbers that it printed.
-#[derive(Debug, Drop)]
+#[derive(Drop)]
 pub enum RunEnd {
     Returned { out: Items<i32>, ret: i32 },
     Undefined { why: Why, out: Items<i32> },
@@ -115,7 +115,7 @@ pub enum RunEnd {
 }
 
 /// A run that is over: its end, the steps used and the evaluations begun of each slot.
-#[derive(Debug, Drop)]
+#[derive(Drop)]
 pub struct Run {
     pub end: RunEnd,
     pub used: u32,

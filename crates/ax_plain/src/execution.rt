@@ -13,13 +13,14 @@ use crate::acting::{
     prints, reads,
 };
 use crate::blocks::{finish_block, leave_block};
-use crate::calling::{call_end, copied_names, enter, evaluated};
+use crate::calling::{call_end, evaluated};
 use crate::completion::{Completion, Plain, Purpose};
 use ax_acts::deciding::{condition, goes_on};
 use ax_acts::declaring::declare_blank;
 use ax_acts::sources::Source;
 use ax_meaning::{Cell, State, Stop, Why};
 use ax_prog::{Arg, FunId, Init, Lval, SlotId, Stmt, Value, VarId};
+use ax_runs::calling::{copied_names, enter};
 use ax_values::store::leave;
 use sqlite_items::{Boxed, Items};
 use std::alloc::AllocError;

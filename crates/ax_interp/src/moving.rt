@@ -1,0 +1,71 @@
+//! Where a run goes on after an act.
+ghost use Rattle.std.specs.Prelude.{◌≡◌, ◌<◌, ◌+◌, if◌then◌else◌};
+ghost use Rattle.ax_acts.specs.Gives.{got_by};
+ghost use Rattle.ax_flat.specs.Machine.{goes_to, moves, further as further_by, returned as returned_to};
+ghost use Rattle.ax_interp.specs.Moves.{calls_of, here_of, move_of, given_to};
+
+use crate::machine::{Finish, Machine};
+use ax_flat::Frame;
+use ax_meaning::{Cell, Stop};
+use ax_values::store::leave;
+
+/// The next op follows, unless the act stopped the run.
+pub fn further(got: Result<(), Stop>, machine: &mut Machine) -> Option<Finish>
+    requires { machine.old.place < usize.MAX }
+    ensures { move_of result machine.new ≡ further_by (here_of machine.old) (got_by got machine.old.state) }
+{
+    match got {
+        Err(stop) => Some(Finish::Stopped(stop)),
+        Ok(()) => {
+            machine.place += 1;
+            None
+        }
+    }
+}
+
+/// The next op follows where a condition holds, and else the one at that place.
+pub fn branched(got: Result<bool, Stop>, to: usize, machine: &mut Machine) -> Option<Finish>
+    requires { machine.old.place < usize.MAX }
+    ensures { move_of result machine.new ≡ moves (got_by got machine.old.state) (λ holds st. goes_to (if holds then machine.old.place + 1 else to) (here_of machine.old) st) }
+{
+    match got {
+        Err(stop) => Some(Finish::Stopped(stop)),
+        Ok(true) => {
+            machine.place += 1;
+            None
+        }
+        Ok(false) => {
+            machine.place = to;
+            None
+        }
+    }
+}
+
+/// The call that runs ends with this value: its objects end, and its caller goes on. That of `main` from which the run began
+/// ends the run.
+pub fn returned(value: Option<Cell>, machine: &mut Machine) -> Option<Finish>
+    ensures { move_of result machine.new ≡ returned_to (calls_of machine.old).callers value machine.old.state }
+{
+    match machine.callers.pop() {
+        None => Some(Finish::Returned(value)),
+        Some(frame) => {
+            go_back(frame, value, machine);
+            None
+        }
+    }
+}
+
+fn go_back(frame: Frame, value: Option<Cell>, machine: &mut Machine)
+    ensures { machine.new ≡ given_to frame value machine.old }
+{
+    let Frame {
+        fun,
+        back,
+        objects,
+        names,
+    } = frame;
+    machine.place = back;
+    machine.running = fun;
+    machine.last = value;
+    leave(objects, names, &mut machine.state.store);
+}
