@@ -4,6 +4,3 @@
 mod ranker;
 
 pub use ranker::{Ranker, Score, SeenRun};
-
-#[cfg(test)]
-mod tests;

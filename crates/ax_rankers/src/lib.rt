@@ -6,6 +6,3 @@ mod kept;
 mod rankers;
 
 pub use rankers::{Jaccard, Ochiai, Tarantula};
-
-#[cfg(test)]
-mod tests;

@@ -6,6 +6,3 @@ mod places;
 
 pub use laws::one_suspicion_order;
 pub use places::{Standing, rank};
-
-#[cfg(test)]
-mod tests;

@@ -1,0 +1,4 @@
+pub mod Zips
+pub mod Others
+pub mod Shown
+pub mod Orders

@@ -1,0 +1,4 @@
+pub mod Coverage
+pub mod Orders
+pub mod Texts
+pub mod Handed
