@@ -23,6 +23,3 @@ pub use right::{BadUse, check_right, check_uses};
 pub use shown::{Both, Shown};
 pub use steps::Steps;
 pub use uses::find_uses;
-
-#[cfg(test)]
-mod tests;

@@ -7,6 +7,3 @@ mod text;
 
 pub use outcome::Outcome;
 pub use proving::prove;
-
-#[cfg(test)]
-mod tests;

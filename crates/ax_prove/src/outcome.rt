@@ -4,7 +4,7 @@ ghost use Rattle.std.specs.Prelude.{◌≡◌, option_map};
 ghost use Rattle.ax_prove.specs.Outcomes.{lines_of, report_of, status_of};
 
 /// A model, a proof that there is none, or the lines of an unfinished proof, as text (docs/FORMATS.md).
-#[derive(Drop, Debug)]
+#[derive(Drop)]
 pub enum Outcome {
     /// What is reported of the model: that there is one, and the literals that it makes true.
     Model { report: Vec<u8> },

@@ -7,6 +7,7 @@ ghost use Rattle.ax_sat.specs.Answer.{AnswerSays, LogGoesOn, units};
 ghost use Rattle.ax_sat.specs.Base.{BaseState};
 
 use crate::answer::{Answer, Log};
+use crate::counts::Counts;
 use crate::search::search;
 use ax_proof::{Clause, Cnf, Lit};
 use std::alloc::{AllocError, Global};
@@ -18,6 +19,7 @@ pub struct Base {
     alloc: Global,
     vars: u64,
     clauses: Vec<Clause>,
+    counts: Counts,
 }
 
 impl Model for Base {
@@ -57,6 +59,7 @@ impl Base {
             alloc,
             vars: cnf.vars,
             clauses,
+            counts: Counts::new(),
         })
     }
 
@@ -99,7 +102,13 @@ impl Base {
             assumptions,
             log,
             budget,
+            &mut self.counts,
         )
+    }
+
+    /// What the last `ask` did that came to an answer; nothing where none did. No answer rests on it.
+    pub fn counts(&self) -> Counts {
+        self.counts
     }
 }
 

@@ -8,7 +8,7 @@ ghost use Rattle.ax_sat.specs.Levels.{StandsIn, AsksIn, AskSays, GoesBack, IsDen
 
 use crate::analysis::place_of;
 use crate::marks::Marks;
-use crate::order::Order;
+use ax_pick::Order;
 use ax_proof::trail::Truth;
 use ax_proof::{Line, Lit};
 use ax_watch::Watch;
@@ -86,7 +86,7 @@ pub fn decide(
     let start = watch.trail().len();
     levels.starts.push(start)?;
     watch.assume(lit);
-    marks.put(lit.var() as usize, start);
+    marks.put_decided(lit.var() as usize, start);
     Ok(())
 }
 

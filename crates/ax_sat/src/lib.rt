@@ -4,18 +4,15 @@
 pub mod analysis;
 pub mod answer;
 pub mod base;
+pub mod counts;
 pub mod descent;
 pub mod lesson;
 pub mod levels;
 pub mod marks;
-pub mod order;
 pub mod over;
-pub mod pace;
 pub mod search;
 
 pub use answer::{Answer, Log};
 pub use base::{Base, solve};
+pub use counts::Counts;
 pub use over::{are_over, is_over};
-
-#[cfg(test)]
-mod tests;

@@ -5,6 +5,7 @@ ghost use Rattle.std.specs.List.{Contains};
 ghost use Rattle.ax_proof.specs.Marks.{IsMarked};
 ghost use Rattle.ax_sat.specs.Marks.{MarksMore};
 
+use crate::counts::Counts;
 use std::alloc::{AllocError, Global};
 use std::marker::Model;
 
@@ -17,6 +18,7 @@ pub struct Marks {
     places: Vec<usize>,
     start: usize,
     late: usize,
+    counts: Counts,
 }
 
 impl Model for Marks {
@@ -35,6 +37,13 @@ impl Model for Marks {
     } };
 }
 
+/// Notes a place for a variable that has room. Whoever reads it looks whether it is right, so nothing rests on it.
+fn set_place(places: &mut [usize], x: usize, place: usize) {
+    if let Some(slot) = places.get_mut(x) {
+        *slot = place;
+    }
+}
+
 impl Marks {
     /// No marks, for variables up to `vars`.
     pub fn new(alloc: Global, vars: u64) -> Result<Marks, AllocError>
@@ -48,15 +57,17 @@ impl Marks {
             places: vec![in alloc; 0; size]?,
             start: 0,
             late: 0,
+            counts: Counts::new(),
         })
     }
 
-    /// Takes all marks away. From `start` on, literals of the trail count as late.
+    /// Takes all marks away, for the next line. From `start` on, literals of the trail count as late.
     pub fn begin(&mut self, start: usize)
         ensures { length self.new.on ≡ length self.old.on }
     {
         self.start = start;
         self.late = 0;
+        self.counts.conflicts = self.counts.conflicts.saturating_add(1);
         while let Some(x) = self.touched.pop() {
             self.on[x] = false;
         }
@@ -108,13 +119,25 @@ impl Marks {
         self.touched.as_slice()
     }
 
-    /// Notes where the literal of a variable stands on the trail.
+    /// Notes where the literal of a variable stands on the trail that a clause made true.
     pub fn put(&mut self, x: usize, place: usize)
         ensures { self.new ≡ self.old }
     {
-        if let Some(slot) = self.places.get_mut(x) {
-            *slot = place;
-        }
+        self.counts.propagations = self.counts.propagations.saturating_add(1);
+        set_place(self.places.as_mut_slice(), x, place);
+    }
+
+    /// Notes where the literal of a variable stands on the trail that was decided.
+    pub fn put_decided(&mut self, x: usize, place: usize)
+        ensures { self.new ≡ self.old }
+    {
+        self.counts.decisions = self.counts.decisions.saturating_add(1);
+        set_place(self.places.as_mut_slice(), x, place);
+    }
+
+    /// How many lines were begun, and how many literals were noted, decided ones and others.
+    pub fn counts(&self) -> Counts {
+        self.counts
     }
 
     /// The place that was noted last for a variable, or 0. Whether it is still right is for the caller to see.

@@ -8,15 +8,27 @@ ghost use Rattle.ax_sat.specs.Answer.{AnswerSays, LogGoesOn, units};
 ghost use Rattle.ax_sat.specs.Levels.{StandsIn, AsksIn};
 
 use crate::answer::{Answer, Log};
+use crate::counts::Counts;
 use crate::descent::{Descent, begin, descend};
 use crate::lesson::teach;
 use crate::levels::{Levels, back, is_root};
 use crate::marks::Marks;
-use crate::order::Order;
-use crate::pace::Pace;
+use ax_pick::{Order, Pace};
 use ax_proof::{Clause, Lit};
 use ax_watch::Watch;
 use std::alloc::{AllocError, Global};
+
+/// Puts a clause behind those that are watched.
+fn put(watch: &mut Watch, clause: &Clause) -> Result<(), AllocError>
+    requires { IsOver watch.old.vars clause.now }
+    ensures clauses { OnOk result (watch.new.clauses ≡ watch.old.clauses ++ clause.now ∷ []) }
+    ensures vars { watch.new.vars ≡ watch.old.vars }
+    ensures trail { watch.new.trail ≡ watch.old.trail }
+{
+    watch.reserve(1, clause.len())?;
+    let _place = watch.add(clause);
+    Ok(())
+}
 
 /// Puts the clauses behind those that are watched.
 fn load(watch: &mut Watch, clauses: &[Clause]) -> Result<(), AllocError>
@@ -26,8 +38,7 @@ fn load(watch: &mut Watch, clauses: &[Clause]) -> Result<(), AllocError>
     ensures trail { watch.new.trail ≡ watch.old.trail }
 {
     for clause in clauses {
-        watch.reserve(1, clause.len())?;
-        let _place = watch.add(clause);
+        put(watch, clause)?;
     }
     Ok(())
 }
@@ -69,7 +80,51 @@ fn restart(
     Ok(())
 }
 
-/// Searches for a model of the clauses in which the assumptions hold.
+/// Learns line after line, until there is an answer or the budget is spent. It owns little, since each way out drops what is
+/// owned.
+fn learn_lines(
+    alloc: Global,
+    watch: &mut Watch,
+    marks: &mut Marks,
+    order: &mut Order,
+    clauses: &[Clause],
+    assumptions: &[Lit],
+    log: &mut Log,
+    budget: u32,
+) -> Result<Answer, AllocError>
+    requires none { watch.old.clauses ≡ [] }
+    requires bare { watch.old.trail ≡ [] }
+    requires size { length marks.old.on ≡ watch.old.vars + 1 }
+    requires vars { watch.old.vars < 2 ^ 63 }
+    requires over { All (IsOver watch.old.vars) clauses.now }
+    requires assumptions { IsOver watch.old.vars assumptions.now }
+    requires lines { All (IsOver watch.old.vars) log.old.lines.items }
+    requires not_empty { All (λ line. line ≢ []) log.old.lines.items }
+    requires lawful { IsLawful (clauses.now ++ units assumptions.now) log.old.lines.items }
+    ensures log { LogGoesOn clauses.now assumptions.now watch.old.vars log.old.lines.items log.new.lines.items }
+    ensures answer { IfOk result (λ answer. AnswerSays (clauses.now ++ units assumptions.now) watch.old.vars log.old.lines.items log.new.lines.items budget answer) }
+{
+    load(watch, clauses)?;
+    load(watch, log.lines.as_slice())?;
+    let mut levels = Levels::new(alloc);
+    let mut pace = Pace::new();
+    for _ in 0..budget {
+        restart(watch, &mut levels, order, &mut pace, assumptions)?;
+        match descend(alloc, watch, &mut levels, marks, order, assumptions)? {
+            Descent::Refuted => return refuted(alloc, log),
+            Descent::Complete(assignment) => return Ok(Answer::Model(assignment)),
+            Descent::Conflict(place) => {
+                teach(alloc, watch, &mut levels, marks, order, log, place)?;
+            }
+        }
+    }
+    if is_refuted(alloc, watch, assumptions)? {
+        return refuted(alloc, log);
+    }
+    Ok(Answer::Budget)
+}
+
+/// Searches for a model of the clauses in which the assumptions hold, and counts what it does.
 pub fn search(
     alloc: Global,
     vars: u64,
@@ -77,6 +132,7 @@ pub fn search(
     assumptions: &[Lit],
     log: &mut Log,
     budget: u32,
+    counts: &mut Counts,
 ) -> Result<Answer, AllocError>
     requires vars { vars < 2 ^ 63 }
     requires over { All (IsOver vars) clauses.now }
@@ -88,41 +144,20 @@ pub fn search(
     ensures answer { IfOk result (λ answer. AnswerSays (clauses.now ++ units assumptions.now) vars log.old.lines.items log.new.lines.items budget answer) }
 {
     let mut watch = Watch::new(alloc, vars)?;
-    load(&mut watch, clauses)?;
-    load(&mut watch, log.lines.as_slice())?;
-    let mut levels = Levels::new(alloc);
     let mut marks = Marks::new(alloc, vars)?;
     let mut order = Order::new(alloc, vars)?;
-    let mut pace = Pace::new();
-    for _ in 0..budget {
-        restart(&mut watch, &mut levels, &mut order, &mut pace, assumptions)?;
-        match descend(
-            alloc,
-            &mut watch,
-            &mut levels,
-            &mut marks,
-            &mut order,
-            assumptions,
-        )? {
-            Descent::Refuted => return refuted(alloc, log),
-            Descent::Complete(assignment) => return Ok(Answer::Model(assignment)),
-            Descent::Conflict(place) => {
-                teach(
-                    alloc,
-                    &mut watch,
-                    &mut levels,
-                    &mut marks,
-                    &mut order,
-                    log,
-                    place,
-                )?;
-            }
-        }
-    }
-    if is_refuted(alloc, &mut watch, assumptions)? {
-        return refuted(alloc, log);
-    }
-    Ok(Answer::Budget)
+    let answer = learn_lines(
+        alloc,
+        &mut watch,
+        &mut marks,
+        &mut order,
+        clauses,
+        assumptions,
+        log,
+        budget,
+    );
+    *counts = marks.counts();
+    answer
 }
 
 /// Ends the log with the empty line.

@@ -1,15 +1,14 @@
 -- Laws of watched literals where a clause is added.
-use Rattle.std.proofs.Common.{◌≡◌, ◌≢◌, ℕ, ◌+◌, ◌*◌, ◌/◌, ◌<◌, ◌≤◌, List, [], ◌∷◌, ◌++◌, length, get_or, arith, ◌⊎◌, inl, inr, true, sym, subst, ap, ◌∙◌, length-append}
+use Rattle.std.proofs.Common.{◌≡◌, ◌≢◌, ℕ, ◌+◌, ◌*◌, ◌/◌, ◌<◌, ◌≤◌, List, [], ◌∷◌, ◌++◌, length, arith, ◌⊎◌, inl, inr, true, sym, subst, ap, ◌∙◌, length-append}
 use Rattle.std.specs.List.{Contains}
 use Rattle.std.proofs.lemmas.Bool.{cases_eq, cases_lt}
-use Rattle.std.proofs.lemmas.List.{get_or_append_left, get_or_push, get_or_default}
+use Rattle.std.proofs.lemmas.List.{get_or_append_left, get_or_push}
 use Rattle.std.proofs.lemmas.List.Elements.{All-push, All-weaker, Contains-append_left, Contains-push}
 use Rattle.ax_proof.specs.Literal.{Literal, literal, code_of}
-use Rattle.ax_proof.specs.Clause.{IsClause}
 use Rattle.ax_proof.proofs.Lists.{Contains-none}
 use Rattle.ax_watch.specs.Lists.{ListsState, list_in, list_count, cell_count, IsIdle, Puts}
 use Rattle.ax_watch.specs.Watch.{clause_of}
-use Rattle.ax_watch.specs.Watched.{clause_in, twin, IsCell, IsShort, AreShort, watched_in, AreWatched, IsWatching}
+use Rattle.ax_watch.specs.Watched.{clause_in, twin, IsCell, IsShort, AreShort, watched_in, IsNotFalse, IsKept, AreKept, AreWatched, IsWatching}
 use Rattle.ax_watch.proofs.Watching.{twin_below, code_from_two, half_below}
 use Rattle.ax_watch.proofs.Walks.{put_keeps, put_there, put_cases}
 
@@ -258,6 +257,9 @@ module _ (cs : List (List Literal)) (c : List Literal) where
           none = puts2.others 0 (code_some _ b w_k1 blow) ∙ puts.others 0 (code_some _ a w_k alow) ∙ same 0 ∙ watching.none;
         }
 
+        pub long_kept : (part whole : List Literal) → IsNotFalse part a → IsNotFalse part b → AreKept cs w part whole → AreKept (cs ++ c ∷ []) longer part whole
+        long_kept part whole alive alive_too before = each_cell (λ n x d. IsKept part whole d x) before (inr alive) (inr alive_too)
+
 -- idle cells
 
 pub idle_same : (old new : ListsState) (cell : ℕ) → ((l : ℕ) → list_in new l ≡ list_in old l) → IsIdle old cell → IsIdle new cell
@@ -266,16 +268,7 @@ idle_same old new cell same idle l h = idle l (let P : List ℕ → Type 0 = λ 
 pub idle_put : (l k cell : ℕ) (old new : ListsState) → Puts l k old new → cell ≢ k → IsIdle old cell → IsIdle new cell
 idle_put l k cell old new puts ne idle m h = elim (put_cases l k old new puts m cell h) [ inl q ↦ ne q.1 | inr q ↦ idle m q ]
 
--- the literals that a clause begins with
-
-pub first_two : (c : List Literal) (a b : Literal) → IsClause c → 1 < length c → a ≡ get_or c 0 a → b ≡ get_or c 1 b → Contains c a × Contains c b × (a ≢ b)
-first_two c a b rising long ea eb =
-    let one : get_or c 1 b ≡ get_or c 1 a = get_or_default c 1 b a long in
-    let less : (get_or c 0 a).var < (get_or c 1 a).var = rising 0 1 a (omega arith) long in
-    let f : Literal → ℕ = λ x. x.var in
-    let va : a.var ≡ (get_or c 0 a).var = ap f ea in
-    let vb : b.var ≡ (get_or c 1 a).var = ap f (eb ∙ one) in
-    ((0, omega arith, sym ea), (1, long, sym eb), λ e. let same : a.var ≡ b.var = ap f e in absurd (omega arith))
+-- new literals by their codes
 
 pub pushed_fits : (w : List Literal) (a b : Literal) (k n : ℕ) → k ≡ length w → code_of a < n → code_of (watched_in ((w ++ a ∷ []) ++ b ∷ []) k) < n
 pushed_fits w a b k n e h =

@@ -2,6 +2,7 @@ pub mod Adding
 pub mod Chains
 pub mod Marks
 pub mod Pouring
+pub mod Reaching
 pub mod Settling
 pub mod Stores
 pub mod Trails

@@ -9,13 +9,9 @@ use Rattle.ax_proof.specs.Runs.{GoesOn}
 use Rattle.ax_proof.proofs.Runs.{false_conflicts, quiet_no_conflict}
 use Rattle.ax_watch.specs.Lists.{ListsState, list_count, list_in, cell_count}
 use Rattle.ax_watch.specs.Watch.{clause_of, WatchSays}
-use Rattle.ax_watch.specs.Watched.{clause_in, watched_in, IsKept, IsMark, KeepsMarks, IsWatching}
+use Rattle.ax_watch.specs.Watched.{clause_in, watched_in, IsKept, IsMark, IsWatching}
 use Rattle.ax_watch.proofs.Trails.{number_says}
 use Rattle.ax_watch.proofs.Watching.{code_fits}
-
-pub mark_kept : (cs : List (List Literal)) (w trail w2 trail2 : List Literal) (mark : Option ℕ) → KeepsMarks cs w trail w2 trail2 → IfSome mark (λ len. IsMark cs w trail len) → IfSome mark (λ len. IsMark cs w2 trail2 len)
-mark_kept cs w trail w2 trail2 None keeps h = h
-mark_kept cs w trail w2 trail2 (Some len) keeps h = keeps len h
 
 -- a mark of another trail with the same front
 mark_front : (cs : List (List Literal)) (w trail trail2 : List Literal) (len : ℕ) → len ≤ length trail2 → take len trail2 ≡ take len trail → IsMark cs w trail len → IsMark cs w trail2 len

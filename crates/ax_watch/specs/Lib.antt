@@ -1,4 +1,5 @@
 pub mod Lists
+pub mod Marks
 pub mod Store
 pub mod Watch
 pub mod Watched

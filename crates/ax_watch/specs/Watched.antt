@@ -1,5 +1,5 @@
 -- Two watched literals of each clause.
-use Rattle.std.specs.Prelude.{◌≡◌, ◌≢◌, ℕ, ◌+◌, ◌-◌, ◌*◌, ◌/◌, ◌%◌, ◌<◌, ◌≤◌, ◌⊎◌, Bool, true, false, List, [], length, take, slice_index_or}
+use Rattle.std.specs.Prelude.{◌≡◌, ◌≢◌, ℕ, ◌+◌, ◌-◌, ◌*◌, ◌/◌, ◌%◌, ◌<◌, ◌≤◌, ◌⊎◌, Bool, true, false, List, [], ◌∷◌, ◌++◌, length, take, slice_index_or}
 use Rattle.std.specs.List.{All, Contains}
 use Rattle.ax_proof.specs.Literal.{Literal, literal, negation, code_of}
 use Rattle.ax_proof.specs.Trail.{TrailState, IsOpen, IsSatisfied, IsFalsified}
@@ -7,6 +7,7 @@ use Rattle.ax_proof.specs.Runs.{GoesOn}
 use Rattle.ax_watch.specs.Lists.{ListsState, IsAsLarge, list_in, list_count, cell_count}
 use Rattle.ax_watch.specs.Watch.{clause_of}
 use Rattle.ax_watch.specs.declared.watched.Finding.{Finding}
+use Rattle.ax_watch.specs.declared.pairs.Pair.{Pair}
 use Rattle.ax_watch.specs.declared.watched.Finding.TheVariants.{Satisfied, Moves, Unit as UnitOf, Falsified}
 
 -- Each clause has two cells, one for each literal of it that is watched: clause 0 has the cells 0 and 1, and so on.
@@ -53,10 +54,14 @@ pub record IsWatching (clauses : List (List Literal)) (size : ℕ) (watched : Li
   pub listed : AreListed clauses size watched lists (literal 0 true)
   pub none : list_in lists 0 ≡ []
 
+-- each clause of two literals or more is true, or none of its watched literals is false by a part of the trail
+abbrev pub AreKept : List (List Literal) → List Literal → List Literal → List Literal → Type 0
+AreKept clauses watched part trail = (cell : ℕ) → IsCell clauses cell → IsKept part trail (clause_in clauses cell) (watched_in watched cell)
+
 -- by the first literals of the trail no clause of two literals or more is false or has one open literal alone, but where
 -- the whole trail makes it true
 abbrev pub Reaches : List (List Literal) → List Literal → List Literal → ℕ → Type 0
-Reaches clauses watched trail len = (cell : ℕ) → IsCell clauses cell → IsKept (take len trail) trail (clause_in clauses cell) (watched_in watched cell)
+Reaches clauses watched trail len = AreKept clauses watched (take len trail) trail
 
 -- a clause of one literal, or of none
 abbrev pub IsShort : List (List Literal) → ℕ → Type 0
@@ -68,9 +73,29 @@ pub record IsMark (clauses : List (List Literal)) (watched trail : List Literal)
   pub short : (place : ℕ) → IsShort clauses place → IsSatisfied (take len trail) (clause_of clauses place)
   pub kept : (cell : ℕ) → IsCell clauses cell → IsKept (take len trail) (take len trail) (clause_in clauses cell) (watched_in watched cell)
 
+-- the trail makes each short clause true, and its first literals each other one true or none of its watched literals false
+pub record IsHead (clauses : List (List Literal)) (watched trail : List Literal) (len : ℕ) : Type 0 where
+  pub within : len ≤ length trail
+  pub short : (place : ℕ) → IsShort clauses place → IsSatisfied trail (clause_of clauses place)
+  pub reached : Reaches clauses watched trail len
+
 -- what was a mark still is
 abbrev pub KeepsMarks : List (List Literal) → List Literal → List Literal → List Literal → List Literal → Type 0
 KeepsMarks clauses old_watched old_trail new_watched new_trail = (len : ℕ) → IsMark clauses old_watched old_trail len → IsMark clauses new_watched new_trail len
+
+-- Two different literals of the clause, and so many literals of the trail that the first of them make neither false.
+pub record IsPair (trail c : List Literal) (p : Pair) : Type 0 where
+  pub first : Contains c p.first
+  pub second : Contains c p.second
+  pub differ : p.first ≢ p.second
+  pub first_open : IsNotFalse (take p.until trail) p.first
+  pub second_open : IsNotFalse (take p.until trail) p.second
+
+-- where a clause of two literals or more is added, what was reached of the others by this many literals or fewer is
+-- reached of all
+abbrev pub KeepsReach : List (List Literal) → List Literal → List Literal → List Literal → List Literal → ℕ → Type 0
+KeepsReach clauses c old_watched watched trail until =
+    (len : ℕ) (whole : List Literal) → len ≤ until → AreKept clauses old_watched (take len trail) whole → AreKept (clauses ++ c ∷ []) watched (take len trail) whole
 
 -- all literals of the clause but this one are false
 abbrev pub IsFalseElse : List Literal → List Literal → Literal → Type 0

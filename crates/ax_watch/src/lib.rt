@@ -2,12 +2,11 @@
 #![tactic(auto)]
 
 mod lists;
+mod pairs;
+mod reach;
 pub mod scan;
 pub mod store;
 pub mod watch;
 mod watched;
 
 pub use watch::Watch;
-
-#[cfg(test)]
-mod tests;

@@ -9,6 +9,8 @@ ghost use Rattle.ax_proof.specs.Runs.{GoesOn};
 ghost use Rattle.ax_watch.specs.Watch.{WatchState, IsSound, Reserves, Forces, HasOnlyForced, HasAllForced, WatchSays, nothing_over, trail_of, clause_of, with_clause, assuming, cut};
 
 use crate::lists::Lists;
+use crate::pairs::note;
+use crate::reach::{Marks, lower, start};
 use crate::scan::scan;
 use crate::store::Store;
 use crate::watched;
@@ -24,7 +26,9 @@ use std::marker::Model;
 /// With each true literal stands the place of the clause that forced it, or none where it was assumed.
 ///
 /// Two literals of each clause are watched, and `propagate` looks at a clause only when one of them became false. It goes
-/// on from where it came to before, unless a clause was added since, or the trail was cut to fewer literals.
+/// on from where it came to before. Where the trail was cut, that is where it had come to when the trail had so many
+/// literals, or before that. Where a clause was added, it is at most where the second of its watched literals became false:
+/// literals that are open are watched if there are two, and else those that became false last.
 #[derive(Drop)]
 pub struct Watch {
     trail: Trail,
@@ -35,16 +39,21 @@ pub struct Watch {
     watched: Vec<Lit>,
     /// The places of the clauses of one literal or none, which are not watched.
     short: Vec<usize>,
-    /// How many literals of the trail propagation came to when it last found no false clause.
-    mark: Option<usize>,
+    /// How many literals the trail had when propagation found no false clause. A cut to one of them leaves nothing to be
+    /// propagated but what clauses that were added since force.
+    marks: Marks,
+    /// As many literals of the trail as propagation can go on from, where that is known to be more than the last mark.
+    head: Option<usize>,
+    /// Where the literal of each variable was put on the trail last.
+    places: Vec<usize>,
 }
 
 impl Model for Watch {
-    ghost use Rattle.std.specs.Prelude.{◌≡◌, ◌+◌, ◌-◌, ◌*◌, ◌≤◌, All, IfSome, length, vec_len};
+    ghost use Rattle.std.specs.Prelude.{◌≡◌, ◌+◌, ◌-◌, ◌*◌, ◌≤◌, ℕ, All, Contains, IfSome, length, vec_len};
     ghost use Rattle.std.specs.Vec.{vec_capacity};
     ghost use Rattle.ax_proof.specs.Literal.{IsOver};
     ghost use Rattle.ax_watch.specs.Watch.{WatchState, AreReasons};
-    ghost use Rattle.ax_watch.specs.Watched.{IsWatching, AreShort, IsMark};
+    ghost use Rattle.ax_watch.specs.Watched.{IsWatching, AreShort, IsMark, IsHead};
 
     ghost Value = { WatchState };
 
@@ -65,7 +74,8 @@ impl Model for Watch {
       reasons : AreReasons w.store.clauses w.trail.lits w.trail.reasons;
       watching : IsWatching w.store.clauses w.trail.size w.watched.items w.lists;
       short : AreShort w.store.clauses w.short.items;
-      mark : IfSome w.mark (λ len. IsMark w.store.clauses w.watched.items w.trail.lits len);
+      marks : (len : ℕ) → Contains w.marks len → IsMark w.store.clauses w.watched.items w.trail.lits len;
+      head : IfSome w.head (λ len. IsHead w.store.clauses w.watched.items w.trail.lits len);
       lists_fit : 2 * w.store.room_clauses ≤ w.lists.room;
       watched_fit : vec_len w.watched + 2 * w.store.room_clauses ≤ vec_capacity w.watched;
       short_fit : vec_len w.short + w.store.room_clauses ≤ vec_capacity w.short;
@@ -85,16 +95,19 @@ impl Watch {
         ensures { IfOk result (λ made. made ≡ nothing_over vars) }
     {
         let size = size_for(vars)?;
-        let codes = watched::doubled(size)?;
         let mut lists = Lists::new(alloc);
-        lists.widen(codes)?;
+        let mut marks = Marks::new(alloc);
+        let mut places = Vec::new(alloc);
+        watched::make_tables(&mut lists, &mut places, &mut marks, size)?;
         Ok(Watch {
             trail: Trail::new(alloc, size)?,
             store: Store::new(alloc),
             lists,
             watched: Vec::new(alloc),
             short: Vec::new(alloc),
-            mark: None,
+            marks,
+            head: None,
+            places,
         })
     }
 
@@ -105,8 +118,7 @@ impl Watch {
         ensures err { OnErr result (self.new ≡ self.old) }
     {
         let size = size_for(vars)?;
-        let codes = watched::doubled(size)?;
-        self.lists.widen(codes)?;
+        watched::make_tables(&mut self.lists, &mut self.places, &mut self.marks, size)?;
         self.trail.widen(size)?;
         Ok(())
     }
@@ -128,14 +140,16 @@ impl Watch {
         ensures place { result ≡ length self.old.clauses }
         ensures added { self.new ≡ with_clause self.old clause.now }
     {
-        watched::enter(
+        let until = watched::enter(
             &mut self.lists,
             &mut self.watched,
             &mut self.short,
             &self.store,
             clause.lits(),
+            &self.trail,
+            self.places.as_slice(),
         );
-        self.mark = None;
+        self.head = lower(&mut self.marks, self.head, until);
         self.store.push(clause)
     }
 
@@ -146,7 +160,9 @@ impl Watch {
         ensures { self.new ≡ assuming self.old lit }
     {
         let _var = lit.var();
+        let len = self.trail.lits().len();
         self.trail.push(lit, 0);
+        note(&mut self.places, self.trail.lits(), len);
     }
 
     /// Unit propagation. It makes true what the clauses force until one of them is false, whose place it gives, or until
@@ -159,19 +175,22 @@ impl Watch {
         ensures conflict { IsSome result ↔ Conflicts self.old.clauses self.old.trail }
         ensures says { WatchSays self.old.clauses self.new.trail result }
     {
+        let len = self.trail.lits().len();
+        let from = start(&self.marks, self.head);
+        self.head = None;
         let found = watched::resume(
             &mut self.lists,
             self.watched.as_mut_slice(),
             &mut self.trail,
             &self.store,
             self.short.as_slice(),
-            self.mark,
+            from,
         );
-        let len = self.trail.lits().len();
+        note(&mut self.places, self.trail.lits(), len);
         match found {
             Some(place) => Some(place),
             None => {
-                self.mark = Some(len);
+                self.marks.push(self.trail.lits().len());
                 None
             }
         }
@@ -187,7 +206,8 @@ impl Watch {
         ensures conflict { IsSome result ↔ Conflicts self.old.clauses self.old.trail }
         ensures says { WatchSays self.old.clauses self.new.trail result }
     {
-        self.mark = None;
+        self.marks.clear();
+        self.head = None;
         scan(&mut self.trail, &self.store)
     }
 
@@ -206,7 +226,8 @@ impl Watch {
         ensures { self.new ≡ cut self.old len }
     {
         self.trail.back(len);
-        self.mark = watched::cut_mark(self.mark, len);
+        self.marks.cut(len);
+        self.head = None;
     }
 
     /// The number of variables.

@@ -1,6 +1,6 @@
 //! Unit propagation that looks only at clauses of which a watched literal became false.
 
-ghost use Rattle.std.specs.Prelude.{◌≡◌, ◌↔◌, ◌+◌, ◌-◌, ◌*◌, ◌/◌, ◌%◌, ◌<◌, ◌≤◌, ◌++◌, ◌∷◌, [], All, Contains, IsSome, IfSome, IfNone, IfOk, OnOk, Some, length, vec_len};
+ghost use Rattle.std.specs.Prelude.{◌≡◌, ◌↔◌, ◌+◌, ◌-◌, ◌*◌, ◌/◌, ◌%◌, ◌<◌, ◌≤◌, ◌++◌, ◌∷◌, [], All, Contains, IsSome, IfSome, IfNone, IfOk, OnOk, Some, ◌≢◌, length, vec_len};
 ghost use Rattle.std.specs.Vec.{vec_capacity};
 ghost use Rattle.ax_proof.specs.Clause.{IsClause};
 ghost use Rattle.ax_proof.specs.Literal.{literal, negation, code_of, IsBelow};
@@ -9,9 +9,11 @@ ghost use Rattle.ax_proof.specs.Trail.{IsConsistent, IsSettled, IsSatisfied};
 ghost use Rattle.ax_proof.specs.Runs.{GoesOn};
 ghost use Rattle.ax_watch.specs.Lists.{list_in, list_count, cell_count, IsIdle, Puts, IsAsLarge};
 ghost use Rattle.ax_watch.specs.Watch.{WatchSays, clause_of};
-ghost use Rattle.ax_watch.specs.Watched.{twin, clause_in, watched_in, IsCell, IsNotFalse, IsFalseElse, AreWatched, AreListed, IsWatching, Reaches, KeepsMarks, Visits, Finds, Walks, IsMark, IsShort, AreShort};
+ghost use Rattle.ax_watch.specs.Watched.{twin, clause_in, watched_in, IsCell, IsNotFalse, IsFalseElse, AreWatched, AreListed, IsWatching, Reaches, KeepsMarks, Visits, Finds, Walks, IsMark, IsHead, IsShort, AreShort, AreKept, KeepsReach};
 
 use crate::lists::Lists;
+use crate::pairs::{Pair, pick};
+use crate::reach::Marks;
 use crate::scan::apply;
 use crate::store::Store;
 use ax_proof::literal::Lit;
@@ -206,25 +208,25 @@ fn settle(trail: &mut Trail, store: &Store, short: &[usize]) -> Option<usize>
     None
 }
 
-/// Unit propagation, from as many literals of the trail as it reached before.
+/// Unit propagation, from as many literals of the trail as it reached before, or from the trail's start.
 pub(crate) fn resume(
     lists: &mut Lists,
     watched: &mut [Lit],
     trail: &mut Trail,
     store: &Store,
     short: &[usize],
-    mark: Option<usize>,
+    from: Option<usize>,
 ) -> Option<usize>
     requires below { All (IsBelow trail.old.size) store.now.clauses }
     requires paired { length trail.old.reasons ≡ length trail.old.lits }
     requires watching { IsWatching store.now.clauses trail.old.size watched.old lists.old }
     requires short { AreShort store.now.clauses short.now }
-    requires mark { IfSome mark (λ len. IsMark store.now.clauses watched.old trail.old.lits len) }
+    requires from { IfSome from (λ len. IsHead store.now.clauses watched.old trail.old.lits len) }
     ensures walks { Walks store.now.clauses trail.old watched.old lists.old trail.new watched.new lists.new }
     ensures says { WatchSays store.now.clauses trail.new.lits result }
     ensures mark { IfNone result (IsMark store.now.clauses watched.new trail.new.lits (length trail.new.lits)) }
 {
-    match mark {
+    match from {
         Some(len) => run(lists, watched, trail, store, len),
         None => match settle(trail, store, short) {
             Some(place) => Some(place),
@@ -233,29 +235,30 @@ pub(crate) fn resume(
     }
 }
 
-/// Begins to watch the first two literals of a clause, which is to come behind the others.
-fn begin(lists: &mut Lists, watched: &mut Vec<Lit>, store: &Store, clause: &[Lit])
+/// Begins to watch two literals of a clause, which is to come behind the others.
+fn begin(lists: &mut Lists, watched: &mut Vec<Lit>, store: &Store, clause: &[Lit], pair: Pair)
     requires long { 1 < length clause.now }
-    requires rising { IsClause clause.now }
+    requires first { Contains clause.now pair.first }
+    requires second { Contains clause.now pair.second }
+    requires differ { pair.first ≢ pair.second }
     requires codes { (l : _) → Contains clause.now l → code_of l < list_count lists.old }
     requires cells { cell_count lists.old ≡ 2 * length store.now.clauses }
     requires sized { length watched.old.items ≡ 2 * length store.now.clauses }
     requires lists_room { 2 ≤ lists.old.room }
     requires room { vec_len watched.old + 2 ≤ vec_capacity watched.old }
     ensures watching { (size : _) → IsWatching store.now.clauses size watched.old.items lists.old → IsWatching (store.now.clauses ++ clause.now ∷ []) size watched.new.items lists.new }
+    ensures kept { (size part whole : _) → IsWatching store.now.clauses size watched.old.items lists.old → IsNotFalse part pair.first → IsNotFalse part pair.second → AreKept store.now.clauses watched.old.items part whole → AreKept (store.now.clauses ++ clause.now ∷ []) watched.new.items part whole }
     ensures lists_room { lists.new.room ≡ lists.old.room - 2 }
     ensures len { vec_len watched.new ≡ vec_len watched.old + 2 }
     ensures capacity { vec_capacity watched.new ≡ vec_capacity watched.old }
 {
     let cell = watched.len();
-    let first = clause[0];
-    let second = clause[1];
-    let _first = first.var();
-    let _second = second.var();
+    let _first = pair.first.var();
+    let _second = pair.second.var();
     lists.grow();
     lists.grow();
-    watched.push_reserved(first);
-    watched.push_reserved(second);
+    watched.push_reserved(pair.first);
+    watched.push_reserved(pair.second);
     link(lists, watched.as_slice(), cell);
     link(lists, watched.as_slice(), cell + 1);
 }
@@ -278,14 +281,18 @@ fn begin_short(lists: &mut Lists, watched: &mut Vec<Lit>, store: &Store, clause:
     watched.push_reserved(Lit::default());
 }
 
-/// Begins to watch a clause that is to come behind the others, in the room that was made for it.
+/// Begins to watch a clause that is to come behind the others, in the room that was made for it. It gives as many
+/// literals of the trail as what was reached of the others by the first of them is reached of all, or none where nothing
+/// is.
 pub(crate) fn enter(
     lists: &mut Lists,
     watched: &mut Vec<Lit>,
     short: &mut Vec<usize>,
     store: &Store,
     clause: &[Lit],
-)
+    trail: &Trail,
+    places: &[usize],
+) -> Option<usize>
     requires rising { IsClause clause.now }
     requires codes { (l : _) → Contains clause.now l → code_of l < list_count lists.old }
     requires cells { cell_count lists.old ≡ 2 * length store.now.clauses }
@@ -295,6 +302,8 @@ pub(crate) fn enter(
     requires short_room { vec_len short.old + 1 ≤ vec_capacity short.old }
     ensures watching { (size : _) → IsWatching store.now.clauses size watched.old.items lists.old → IsWatching (store.now.clauses ++ clause.now ∷ []) size watched.new.items lists.new }
     ensures short { AreShort store.now.clauses short.old.items → AreShort (store.now.clauses ++ clause.now ∷ []) short.new.items }
+    ensures long { IfSome result (λ _. 1 < length clause.now) }
+    ensures kept { IfSome result (λ until. (size : _) → IsWatching store.now.clauses size watched.old.items lists.old → KeepsReach store.now.clauses clause.now watched.old.items watched.new.items trail.now.lits until) }
     ensures lists_room { lists.new.room ≡ lists.old.room - 2 }
     ensures len { vec_len watched.new ≡ vec_len watched.old + 2 }
     ensures capacity { vec_capacity watched.new ≡ vec_capacity watched.old }
@@ -304,24 +313,12 @@ pub(crate) fn enter(
     if clause.len() < 2 {
         begin_short(lists, watched, store, clause);
         short.push_reserved(store.len());
-        return;
+        return None;
     }
-    begin(lists, watched, store, clause);
-}
-
-/// The mark, unless it is past so many literals.
-pub(crate) fn cut_mark(mark: Option<usize>, len: usize) -> Option<usize>
-    ensures { IfSome result (λ m. (m ≤ len) × (mark ≡ Some m)) }
-{
-    match mark {
-        Some(m) => {
-            if m <= len {
-                return Some(m);
-            }
-            None
-        }
-        None => None,
-    }
+    let pair = pick(trail, places, clause);
+    let until = pair.until;
+    begin(lists, watched, store, clause, pair);
+    Some(until)
 }
 
 /// Twice the number.
@@ -329,6 +326,26 @@ pub(crate) fn doubled(number: usize) -> Result<usize, AllocError>
     ensures { IfOk result (λ double. double ≡ 2 * number) }
 {
     number.checked_mul(2).ok_or(AllocError)
+}
+
+/// Makes the tables large enough for the variables below `size`.
+pub(crate) fn make_tables(
+    lists: &mut Lists,
+    places: &mut Vec<usize>,
+    marks: &mut Marks,
+    size: usize,
+) -> Result<(), AllocError>
+    ensures kept { (l : _) → list_in lists.new l ≡ list_in lists.old l }
+    ensures done { OnOk result (2 * size ≤ list_count lists.new) }
+    ensures more { list_count lists.old ≤ list_count lists.new }
+    ensures cells { cell_count lists.new ≡ cell_count lists.old }
+    ensures room { lists.new.room ≡ lists.old.room }
+    ensures marks { marks.new ≡ marks.old }
+{
+    let codes = doubled(size)?;
+    lists.widen(codes)?;
+    places.resize(size, 0)?;
+    marks.reserve(size)
 }
 
 /// Makes room for at least so many clauses.

@@ -1,18 +1,18 @@
 use Rattle.ax_proof.proofs.Runs.{below_along}
 use Rattle.ax_watch.proofs.Walks.{walks_along}
-use Rattle.ax_watch.proofs.Settling.{reaches_mark, reaches_none, shorts_mark, shorts_all, ends_says, ends_mark, settled_walks}
+use Rattle.ax_watch.proofs.Settling.{reaches_none, shorts_all, ends_says, ends_mark, settled_walks}
 use Rattle.ax_watch.proofs.watched.resume.Goals as goal
 
 pub run-requires-clause-reached : goal.run-requires-clause-reached
-run-requires-clause-reached c = reaches_mark _ _ _ c.in-Some.len (rw c.in-Some.is at c.requires.mark)
+run-requires-clause-reached c = (rw c.in-Some.is at c.requires.from).reached
 
 pub returns-in-Some-clause-says : goal.returns-in-Some-clause-says
 returns-in-Some-clause-says c =
-    ends_says _ c.args.trail.now _ _ c.run.new.trail _ _ c.run.ensures.walks (shorts_mark _ _ _ c.in-Some.len (rw c.in-Some.is at c.requires.mark)) c.run.result c.run.ensures.reached c.run.ensures.conflict
+    ends_says _ c.args.trail.now _ _ c.run.new.trail _ _ c.run.ensures.walks (rw c.in-Some.is at c.requires.from).short c.run.result c.run.ensures.reached c.run.ensures.conflict
 
 pub returns-in-Some-clause-mark : goal.returns-in-Some-clause-mark
 returns-in-Some-clause-mark c =
-    ends_mark _ c.args.trail.now _ _ c.run.new.trail _ _ c.run.ensures.walks (shorts_mark _ _ _ c.in-Some.len (rw c.in-Some.is at c.requires.mark)) c.run.result c.run.ensures.reached
+    ends_mark _ c.args.trail.now _ _ c.run.new.trail _ _ c.run.ensures.walks (rw c.in-Some.is at c.requires.from).short c.run.result c.run.ensures.reached
 
 pub run-requires-in-None-settle-clause-below : goal.run-requires-in-None-settle-clause-below
 run-requires-in-None-settle-clause-below c = below_along _ c.args.trail.now c.settle.new.trail c.settle.ensures.goes_on c.requires.below

@@ -1,6 +1,7 @@
-use Rattle.std.proofs.Common.{◌≤◌, ◌-◌, arith}
+use Rattle.std.proofs.Common.{◌≤◌, ◌-◌, Some, arith}
 use Rattle.ax_watch.proofs.Trails.{over_push, paired_push, reasons_push}
 use Rattle.ax_watch.proofs.Marks.{mark_push}
+use Rattle.ax_watch.proofs.Reaching.{head_push}
 use Rattle.ax_watch.proofs.watch.Watch.assume.Goals as goal
 
 pub invariant_of-self : goal.invariant_of-self
@@ -15,7 +16,8 @@ invariant_of-self c =
       reasons = rw (c.push.ensures.reasons, c.push.ensures.lits) (reasons_push _ _ _ c.args.lit c.self.invariant.paired c.self.invariant.reasons);
       watching = rw c.push.ensures.size c.self.invariant.watching;
       short = c.self.invariant.short;
-      mark = rw c.push.ensures.lits (mark_push _ _ _ c.args.lit _ c.self.invariant.mark);
+      marks = λ len there. rw c.push.ensures.lits (mark_push _ _ _ c.args.lit (Some len) (c.self.invariant.marks len there));
+      head = rw c.push.ensures.lits (head_push _ _ _ c.args.lit _ c.self.invariant.head);
       lists_fit = c.self.invariant.lists_fit;
       watched_fit = c.self.invariant.watched_fit;
       short_fit = c.self.invariant.short_fit;

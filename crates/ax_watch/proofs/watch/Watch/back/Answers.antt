@@ -1,4 +1,4 @@
-use Rattle.std.proofs.Common.{◌≤◌, length}
+use Rattle.std.proofs.Common.{◌≤◌, length, Some, refl}
 use Rattle.ax_watch.proofs.Trails.{over_take, paired_take, reasons_take}
 use Rattle.ax_watch.proofs.Marks.{mark_cut}
 use Rattle.ax_watch.proofs.watch.Watch.back.Goals as goal
@@ -14,7 +14,10 @@ invariant_of-self c =
       reasons = rw (c.back.ensures.reasons, c.back.ensures.lits) (reasons_take _ _ _ c.args.len c.self.invariant.reasons);
       watching = rw c.back.ensures.size c.self.invariant.watching;
       short = c.self.invariant.short;
-      mark = rw c.back.ensures.lits (mark_cut _ _ _ c.args.len _ c.cut_mark-self-inside.result within c.cut_mark-self-inside.ensures c.self.invariant.mark);
+      marks = λ len there.
+          let (was, low) = c.cut.ensures len there in
+          rw c.back.ensures.lits (mark_cut _ _ _ c.args.len (Some len) (Some len) within (low, refl) (c.self.invariant.marks len was));
+      head = tt;
       lists_fit = c.self.invariant.lists_fit;
       watched_fit = c.self.invariant.watched_fit;
       short_fit = c.self.invariant.short_fit;

@@ -1,4 +1,5 @@
 use Rattle.ax_watch.proofs.Trails.{all_below, over_along, paired_along, reasons_along, goes_on_sized, only_forced, all_forced_none}
+use Rattle.ax_proof.proofs.Lists.{Contains-none}
 use Rattle.ax_watch.proofs.watch.Watch.propagate_by_scan.Goals as goal
 
 pub scan-requires : goal.scan-requires
@@ -15,7 +16,8 @@ invariant_of-self c =
       reasons = reasons_along _ _ _ goes c.self.invariant.paired c.self.invariant.reasons;
       watching = rw goes.size c.self.invariant.watching;
       short = c.self.invariant.short;
-      mark = cc;
+      marks = λ len there. absurd (Contains-none len (rw c.clear.ensures at there));
+      head = tt;
       lists_fit = c.self.invariant.lists_fit;
       watched_fit = c.self.invariant.watched_fit;
       short_fit = c.self.invariant.short_fit;

@@ -15,7 +15,8 @@ invariant_of-self c =
       reasons = before.reasons;
       watching = rw c.make_room.ensures.watched (watching_lists _ _ _ _ c.self.inside.lists c.make_room.new.lists c.make_room.ensures.kept c.make_room.ensures.cells (omega arith) before.watching);
       short = rw c.make_room.ensures.short before.short;
-      mark = rw c.make_room.ensures.watched before.mark;
+      marks = λ len there. rw c.make_room.ensures.watched (before.marks len there);
+      head = rw c.make_room.ensures.watched before.head;
       lists_fit = let r = c.make_room.ensures.lists_more in let f = before.lists_fit in omega arith;
       watched_fit = let n = c.make_room.ensures.len in let r = c.make_room.ensures.more in let f = before.watched_fit in omega arith;
       short_fit = let n = c.make_room.ensures.short_len in let r = c.make_room.ensures.short_more in let f = before.short_fit in omega arith;
@@ -34,7 +35,8 @@ invariant_of-self-2 c =
       reasons = rw c.reserve.ensures.kept before.reasons;
       watching = rw (c.reserve.ensures.kept, c.make_room.ensures.watched) (watching_lists _ _ _ _ c.self.inside.lists c.make_room.new.lists c.make_room.ensures.kept c.make_room.ensures.cells (omega arith) before.watching);
       short = rw (c.reserve.ensures.kept, c.make_room.ensures.short) before.short;
-      mark = rw (c.reserve.ensures.kept, c.make_room.ensures.watched) before.mark;
+      marks = λ len there. rw (c.reserve.ensures.kept, c.make_room.ensures.watched) (before.marks len there);
+      head = rw (c.reserve.ensures.kept, c.make_room.ensures.watched) before.head;
       lists_fit =
           let r = c.make_room.ensures.lists_more in
           let f = before.lists_fit in

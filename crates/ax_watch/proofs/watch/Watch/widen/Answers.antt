@@ -8,37 +8,38 @@ invariant_of-self-2 c =
     let before = c.self.invariant in
     let rises : c.self.inside.trail.size - 1 ≤ c.args.vars = rw (← c.self.view_is) at c.requires in
     let wider : c.self.inside.trail.size - 1 ≤ c.in_ok-size.size - 1 = omega arith in
-    let done = c.in_ok-widen.ensures.done in
-    let twice = c.in_ok-codes.ensures in
-    rw c.in_ok-widen-2.ensures.done (record {
+    let done = c.in_ok-make_tables.ensures.done in
+    rw c.in_ok-widen.ensures.done (record {
       size = omega arith;
       over = all_over_wider _ _ _ wider before.over;
       literals = over_wider _ _ _ wider before.literals;
       paired = before.paired;
       reasons = before.reasons;
-      watching = watching_lists _ _ _ _ c.self.inside.lists c.widen.new.self c.in_ok-widen.ensures.kept c.in_ok-widen.ensures.cells (omega arith) before.watching;
+      watching = watching_lists _ _ _ _ c.self.inside.lists c.make_tables.new.lists c.make_tables.ensures.kept c.make_tables.ensures.cells (omega arith) before.watching;
       short = before.short;
-      mark = before.mark;
-      lists_fit = let r = c.in_ok-widen.ensures.room in let f = before.lists_fit in omega arith;
+      marks = λ len there. before.marks len (rw c.make_tables.ensures.marks at there);
+      head = before.head;
+      lists_fit = let r = c.make_tables.ensures.room in let f = before.lists_fit in omega arith;
       watched_fit = before.watched_fit;
       short_fit = before.short_fit;
     })
 
-pub invariant_of-self-in_err-widen-2 : goal.invariant_of-self-in_err-widen-2
-invariant_of-self-in_err-widen-2 c =
+pub invariant_of-self-in_err-widen : goal.invariant_of-self-in_err-widen
+invariant_of-self-in_err-widen c =
     let before = c.self.invariant in
-    let more = c.widen.ensures.more in
+    let more = c.make_tables.ensures.more in
     let enough = before.watching.listed.enough in
-    rw c.in_err-widen-2.ensures.err (record {
+    rw c.in_err-widen.ensures.err (record {
       size = before.size;
       over = before.over;
       literals = before.literals;
       paired = before.paired;
       reasons = before.reasons;
-      watching = watching_lists _ _ _ _ c.self.inside.lists c.widen.new.self c.widen.ensures.kept c.widen.ensures.cells (omega arith) before.watching;
+      watching = watching_lists _ _ _ _ c.self.inside.lists c.make_tables.new.lists c.make_tables.ensures.kept c.make_tables.ensures.cells (omega arith) before.watching;
       short = before.short;
-      mark = before.mark;
-      lists_fit = let r = c.widen.ensures.room in let f = before.lists_fit in omega arith;
+      marks = λ len there. before.marks len (rw c.make_tables.ensures.marks at there);
+      head = before.head;
+      lists_fit = let r = c.make_tables.ensures.room in let f = before.lists_fit in omega arith;
       watched_fit = before.watched_fit;
       short_fit = before.short_fit;
     })
@@ -46,7 +47,7 @@ invariant_of-self-in_err-widen-2 c =
 pub invariant_of-self : goal.invariant_of-self
 invariant_of-self c =
     let before = c.self.invariant in
-    let more = c.widen.ensures.more in
+    let more = c.make_tables.ensures.more in
     let enough = before.watching.listed.enough in
     record {
       size = before.size;
@@ -54,10 +55,11 @@ invariant_of-self c =
       literals = before.literals;
       paired = before.paired;
       reasons = before.reasons;
-      watching = watching_lists _ _ _ _ c.self.inside.lists c.widen.new.self c.widen.ensures.kept c.widen.ensures.cells (omega arith) before.watching;
+      watching = watching_lists _ _ _ _ c.self.inside.lists c.make_tables.new.lists c.make_tables.ensures.kept c.make_tables.ensures.cells (omega arith) before.watching;
       short = before.short;
-      mark = before.mark;
-      lists_fit = let r = c.widen.ensures.room in let f = before.lists_fit in omega arith;
+      marks = λ len there. before.marks len (rw c.make_tables.ensures.marks at there);
+      head = before.head;
+      lists_fit = let r = c.make_tables.ensures.room in let f = before.lists_fit in omega arith;
       watched_fit = before.watched_fit;
       short_fit = before.short_fit;
     }
