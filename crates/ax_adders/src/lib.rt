@@ -6,6 +6,3 @@ pub mod sums;
 
 pub use compare::{equal, less};
 pub use sums::sum;
-
-#[cfg(test)]
-mod tests;

@@ -7,6 +7,3 @@ mod valuation;
 
 pub use blasted::{Blasted, clauses};
 pub use valuation::model_to_valuation;
-
-#[cfg(test)]
-mod tests;

@@ -4,6 +4,3 @@
 pub mod blocks;
 
 pub use blocks::{test_block, word_block};
-
-#[cfg(test)]
-mod tests;

@@ -5,6 +5,3 @@ pub mod columns;
 pub mod counter;
 
 pub use counter::at_most;
-
-#[cfg(test)]
-mod tests;

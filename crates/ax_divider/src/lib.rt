@@ -4,6 +4,3 @@
 pub mod quotients;
 
 pub use quotients::divide;
-
-#[cfg(test)]
-mod tests;

@@ -4,6 +4,3 @@
 pub mod products;
 
 pub use products::prod;
-
-#[cfg(test)]
-mod tests;

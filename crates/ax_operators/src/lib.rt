@@ -162,6 +162,3 @@ fn after(bank: &mut Bank, before: &Term, at: Known) -> Result<Known, AllocError>
     let defined = bank.make_all(before, &defined)?;
     Ok(Known { value, defined })
 }
-
-#[cfg(test)]
-mod tests;

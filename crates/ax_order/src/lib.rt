@@ -4,6 +4,3 @@
 mod walk;
 
 pub use walk::order;
-
-#[cfg(test)]
-mod tests;

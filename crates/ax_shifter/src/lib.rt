@@ -4,6 +4,3 @@
 pub mod shifts;
 
 pub use shifts::shift;
-
-#[cfg(test)]
-mod tests;

@@ -604,6 +604,3 @@ impl Drop for Bank {
         let Bank { alloc: _, table: _ } = self;
     }
 }
-
-#[cfg(test)]
-mod tests;
