@@ -7,9 +7,6 @@ ghost use Rattle.ax_meaning.specs.Runs.{evaluations, shown};
 ghost use Rattle.ax_least.specs.Least.{KeepsBounds};
 ghost use Rattle.ax_least.specs.Laws.{OneLeastCost, LeastIsRepair};
 
-#[cfg(test)]
-mod tests;
-
 use ax_meaning::Run;
 use ax_prog::{Bounds, SlotId};
 

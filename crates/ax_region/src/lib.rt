@@ -18,7 +18,7 @@ use sqlite_items::{Boxed, Items};
 use std::alloc::{AllocError, Global};
 
 /// What a node is, without its operands.
-#[derive(Debug, Drop)]
+#[derive(Drop)]
 pub enum Label {
     Num(i32),
     Atom(Atom),
@@ -28,21 +28,21 @@ pub enum Label {
 }
 
 /// A label that a position may take, and what it costs there: 0 for the old one, else 1.
-#[derive(Debug, Drop)]
+#[derive(Drop)]
 pub struct Choice {
     pub label: Label,
     pub cost: u32,
 }
 
 /// A tree with its number of changed nodes.
-#[derive(Debug, Drop)]
+#[derive(Drop)]
 pub struct Costed {
     pub tree: Expr,
     pub cost: u32,
 }
 
 /// A position with its labels and the places of its three operands; `Gone` where the space has no such position.
-#[derive(Debug, Drop)]
+#[derive(Drop)]
 pub enum Place {
     Gone,
     At(Items<Choice>, Boxed<Place>, Boxed<Place>, Boxed<Place>),
@@ -67,6 +67,3 @@ pub fn trees_within(
     let all = trees(alloc, &place, budget)?;
     Ok(all)
 }
-
-#[cfg(test)]
-mod tests;

@@ -1,5 +1,6 @@
 //! The trees of a place within a budget of changed nodes.
 ghost use Rattle.std.specs.Prelude.{◌≡◌, IfOk, map, flat_map, filter, ◌∷◌, []};
+ghost use Rattle.ax_prog.specs.declared.Expr.TheVariants as of_tree;
 ghost use Rattle.ax_region.specs.Trees.{Lists, OneEach, costed};
 ghost use Rattle.ax_region.specs.Listed.{within, with_one, with_two, with_three, of_choice, node, listed};
 
@@ -33,6 +34,29 @@ fn unary(
     Ok(all)
 }
 
+fn boxed_copy(alloc: Global, tree: &Expr) -> Result<Boxed<Expr>, AllocError>
+    ensures { IfOk result (λ a. a ≡ tree.now) }
+{
+    Boxed::new(alloc, copy_expr(alloc, tree)?)
+}
+
+fn binary_tree(alloc: Global, op: Bin, a: &Expr, b: &Expr) -> Result<Expr, AllocError>
+    ensures { IfOk result (λ x. x ≡ of_tree.Bin op a.now b.now) }
+{
+    let first = boxed_copy(alloc, a)?;
+    let second = boxed_copy(alloc, b)?;
+    Ok(Expr::Bin(op, first, second))
+}
+
+fn condition_tree(alloc: Global, a: &Expr, b: &Expr, c: &Expr) -> Result<Expr, AllocError>
+    ensures { IfOk result (λ x. x ≡ of_tree.Cond a.now b.now c.now) }
+{
+    let first = boxed_copy(alloc, a)?;
+    let second = boxed_copy(alloc, b)?;
+    let third = boxed_copy(alloc, c)?;
+    Ok(Expr::Cond(first, second, third))
+}
+
 fn binary_from(
     alloc: Global,
     op: Bin,
@@ -47,9 +71,7 @@ fn binary_from(
     for second in seconds {
         let whole = cost as u64 + first.cost as u64 + second.cost as u64;
         if whole <= budget as u64 {
-            let a = copy_expr(alloc, &first.tree)?;
-            let b = copy_expr(alloc, &second.tree)?;
-            let tree = Expr::Bin(op, Boxed::new(alloc, a)?, Boxed::new(alloc, b)?);
+            let tree = binary_tree(alloc, op, &first.tree, &second.tree)?;
             all.push(Costed {
                 tree,
                 cost: whole as u32,
@@ -92,14 +114,7 @@ fn conditional_from(
     for third in thirds {
         let whole = cost as u64 + first.cost as u64 + second.cost as u64 + third.cost as u64;
         if whole <= budget as u64 {
-            let a = copy_expr(alloc, &first.tree)?;
-            let b = copy_expr(alloc, &second.tree)?;
-            let c = copy_expr(alloc, &third.tree)?;
-            let tree = Expr::Cond(
-                Boxed::new(alloc, a)?,
-                Boxed::new(alloc, b)?,
-                Boxed::new(alloc, c)?,
-            );
+            let tree = condition_tree(alloc, &first.tree, &second.tree, &third.tree)?;
             all.push(Costed {
                 tree,
                 cost: whole as u32,

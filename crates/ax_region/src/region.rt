@@ -1,5 +1,6 @@
 //! The positions of a space as a tree of places.
 ghost use Rattle.std.specs.Prelude.{◌≡◌, ◌≢◌, IfOk, Contains, AllPairs, Some, None};
+ghost use Rattle.ax_region.specs.declared.Place.TheVariants as place;
 ghost use Rattle.ax_region.specs.Positions.{top};
 ghost use Rattle.ax_region.specs.Trees.{OneEach};
 ghost use Rattle.ax_region.specs.Region.{In, fresh, IsRegion, IsRegionOf, IsChoices};
@@ -58,6 +59,21 @@ fn old_choices(alloc: Global, old: &Expr, labels: &[Label]) -> Result<Items<Choi
     choices(alloc, &own, labels)
 }
 
+// A position with two operands at most.
+fn placed(
+    alloc: Global,
+    choices: Items<Choice>,
+    first: Place,
+    second: Place,
+) -> Result<Place, AllocError>
+    ensures { IfOk result (λ p. p ≡ place.At choices first second place.Gone) }
+{
+    let first = Boxed::new(alloc, first)?;
+    let second = Boxed::new(alloc, second)?;
+    let gone = Boxed::new(alloc, Place::Gone)?;
+    Ok(Place::At(choices, first, second, gone))
+}
+
 // The place of a position without an old node, with so many further letters.
 #[tactic(auto, using(crate::proofs::RegionSteps::layers))]
 fn fresh_place(alloc: Global, room: u32, grow: u32, labels: &[Label]) -> Result<Place, AllocError>
@@ -65,23 +81,14 @@ fn fresh_place(alloc: Global, room: u32, grow: u32, labels: &[Label]) -> Result<
     ensures region { IfOk result (IsRegion (Contains labels.now) grow (In None room)) }
     ensures one { IfOk result OneEach }
 {
-    let choices = new_choices(alloc, labels)?;
     if room == 0 {
-        return Ok(Place::At(
-            choices,
-            Boxed::new(alloc, Place::Gone)?,
-            Boxed::new(alloc, Place::Gone)?,
-            Boxed::new(alloc, Place::Gone)?,
-        ));
+        let leaf = placed(alloc, new_choices(alloc, labels)?, Place::Gone, Place::Gone)?;
+        return Ok(leaf);
     }
     let first = fresh_place(alloc, room - 1, grow, labels)?;
     let second = fresh_place(alloc, room - 1, grow, labels)?;
-    Ok(Place::At(
-        choices,
-        Boxed::new(alloc, first)?,
-        Boxed::new(alloc, second)?,
-        Boxed::new(alloc, Place::Gone)?,
-    ))
+    let grown = placed(alloc, new_choices(alloc, labels)?, first, second)?;
+    Ok(grown)
 }
 
 // The place of a first or second operand that the old tree has not.

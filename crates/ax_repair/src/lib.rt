@@ -8,8 +8,6 @@ ghost use Rattle.ax_repair.specs.Outcomes.{IsOutcome};
 ghost use Rattle.ax_repair.specs.Written.{OwnTreesStay};
 
 mod least;
-#[cfg(test)]
-mod tests;
 mod trying;
 mod written;
 
@@ -22,14 +20,14 @@ use std::alloc::{AllocError, Global};
 use written::write_source;
 
 /// A repaired source, the patch that it is repaired by, and what the patch costs.
-#[derive(Debug, Drop)]
+#[derive(Drop)]
 pub struct Repaired {
     pub source: Items<u8>,
     pub patch: Patch,
     pub cost: u64,
 }
 
-#[derive(Debug, Drop)]
+#[derive(Drop)]
 pub enum Outcome {
     Repaired(Repaired),
     NoPatch,

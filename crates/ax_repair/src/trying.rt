@@ -5,8 +5,9 @@ ghost use Rattle.ax_space.specs.Patches.{IsPatch};
 ghost use Rattle.ax_least.specs.Least.{PassesWithin, IsRepair};
 ghost use Rattle.ax_repair.specs.Search.{IsSearchable, NoneRepairs, RepairsAt};
 
+use ax_flow::{Flow, lower};
+use ax_interp::{passes, run};
 use ax_least::keeps_bounds;
-use ax_plain::{passes, run};
 use ax_prog::{Bounds, Program, SlotId, Test};
 use ax_space::{Patch, Space, apply};
 use std::alloc::{AllocError, Global};
@@ -14,29 +15,29 @@ use std::alloc::{AllocError, Global};
 // Whether the program passes the test by a run that keeps the bounds.
 fn passes_within(
     alloc: Global,
-    program: &Program,
+    flow: &Flow,
     bounds: &Bounds,
     chosen: &[SlotId],
     test: &Test,
 ) -> Result<bool, AllocError>
-    ensures { IfOk result (λ found. IsTrue found ↔ PassesWithin program.now bounds.now chosen.now test.now) }
+    ensures { IfOk result (λ found. IsTrue found ↔ PassesWithin flow.now.program bounds.now chosen.now test.now) }
 {
-    let run = run(alloc, program, test.inputs.as_slice(), bounds.steps)?;
+    let run = run(alloc, flow, test.inputs.as_slice(), bounds.steps)?;
     Ok(passes(&run, test) && keeps_bounds(&run, bounds, chosen))
 }
 
 // Whether the program passes every test by runs that keep the bounds.
 fn passes_all(
     alloc: Global,
-    program: &Program,
+    flow: &Flow,
     bounds: &Bounds,
     chosen: &[SlotId],
     tests: &[Test],
 ) -> Result<bool, AllocError>
-    ensures { IfOk result (λ found. IsTrue found ↔ All (PassesWithin program.now bounds.now chosen.now) tests.now) }
+    ensures { IfOk result (λ found. IsTrue found ↔ All (PassesWithin flow.now.program bounds.now chosen.now) tests.now) }
 {
     for test in tests {
-        if !passes_within(alloc, program, bounds, chosen, test)? {
+        if !passes_within(alloc, flow, bounds, chosen, test)? {
             return Ok(false);
         }
     }
@@ -57,7 +58,8 @@ fn is_repair(
     ensures { IfOk result (λ found. IsTrue found ↔ IsRepair program.now tests.now bounds.now space.now patch.now) }
 {
     let patched = apply(alloc, program, space, patch)?;
-    passes_all(alloc, &patched, bounds, space.chosen(), tests)
+    let flow = lower(alloc, &patched)?;
+    passes_all(alloc, &flow, bounds, space.chosen(), tests)
 }
 
 /// The place of the first of these patches that is a repair.

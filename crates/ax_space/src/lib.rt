@@ -31,13 +31,13 @@ use std::marker::Model;
 use sums::{room, sum_of_changes};
 
 /// A tree for each chosen expression of a space, in their order.
-#[derive(Debug, Drop)]
+#[derive(Drop)]
 pub struct Patch {
     pub trees: Items<Expr>,
 }
 
 /// What a position may be: one label, or any number from 0 on, its `Const`.
-#[derive(Debug, Drop)]
+#[derive(Drop)]
 pub enum Mark {
     Label(Label),
     Const,
@@ -45,7 +45,7 @@ pub enum Mark {
 
 /// A position of a chosen expression's space: a word over the numbers of operands, from 1. `old` says that the old
 /// tree has a node there, whose label is then the first.
-#[derive(Debug, Drop)]
+#[derive(Drop)]
 pub struct Position {
     pub word: Items<u8>,
     pub labels: Items<Mark>,
@@ -53,7 +53,7 @@ pub struct Position {
 }
 
 /// A tree for each of some slots, with the cost of all.
-#[derive(Debug, Drop)]
+#[derive(Drop)]
 struct Row {
     trees: Items<Expr>,
     cost: u32,
@@ -67,7 +67,7 @@ enum Operator {
 }
 
 /// The trees that may replace the chosen expressions of a program.
-#[derive(Debug, Drop)]
+#[derive(Drop)]
 pub struct Space {
     chosen: Items<SlotId>,
     slots: Items<Slot>,
@@ -203,6 +203,3 @@ pub fn apply(
 {
     put_trees(alloc, program, space.chosen(), patch.trees.as_slice())
 }
-
-#[cfg(test)]
-mod tests;
