@@ -12,8 +12,6 @@ ghost use Rattle.ax_front.specs.Texts.{IsProgramOfText};
 ghost use Rattle.ax_back.specs.Changes.{Change, IsWritable, AreChanges, replaced, changed, parts_of, ReadsBack};
 
 mod forms;
-#[cfg(test)]
-mod tests;
 
 use ax_print::{expr_text, splice};
 use ax_prog::{Expr, Program, SlotId, Span};

@@ -5,9 +5,6 @@ ghost use Rattle.std.specs.Prelude.{◌≡◌, ℕ, ◌<◌, ◌^◌, List, leng
 ghost use Rattle.ax_prog.specs.declared.Program.{Program};
 ghost use Rattle.ax_front.specs.Texts.{IsProgramOfText, KeepsLimits, FaultIs, RefusesRightly};
 
-#[cfg(test)]
-mod tests;
-
 use ax_lex::{LexFault, lex};
 use ax_names::{Denied, resolve};
 use ax_parse::{ParseFault, parse};

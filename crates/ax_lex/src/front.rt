@@ -13,7 +13,7 @@ use crate::{LexFault, MAX_TOKENS};
 use ax_prog::tokens::Kind;
 use std::alloc::Global;
 
-#[derive(Debug, Drop)]
+#[derive(Drop)]
 pub(crate) enum Front {
     /// So many bytes of a space, a comment or an include, and whether only blanks stand before the next byte on its line.
     Layout(usize, bool),

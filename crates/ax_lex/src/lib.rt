@@ -10,8 +10,6 @@ mod front;
 mod layout;
 mod numbers;
 mod tables;
-#[cfg(test)]
-mod tests;
 mod words;
 
 ghost use Rattle.std.specs.Prelude.{◌≡◌, ◌≤◌, ◌<◌, ◌^◌, length, IfOk, IfErr, ◌⊎◌};

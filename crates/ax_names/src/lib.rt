@@ -9,8 +9,6 @@ ghost use Rattle.ax_parse.specs.declared.tree.Tree.{Tree};
 ghost use Rattle.ax_names.specs.Rules.{IsProgramOf, program_with as program_with_body};
 
 mod statements;
-#[cfg(test)]
-mod tests;
 mod values;
 
 use ax_parse::Tree;
@@ -38,7 +36,7 @@ impl From<AllocError> for Denied {
 }
 
 /// What stands behind a part of the source: the variables declared and the slots met so far.
-#[derive(Debug, Drop)]
+#[derive(Drop)]
 pub struct State {
     pub vars: Items<Var>,
     pub slots: Items<Slot>,

@@ -16,6 +16,3 @@ pub use host::HostShelf;
 pub use memory::MemShelf;
 pub use reading::{ReadFault, read_all};
 pub use shelf::{Failed, Shelf};
-
-#[cfg(test)]
-mod tests;

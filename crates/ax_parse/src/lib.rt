@@ -17,8 +17,6 @@ mod nesting;
 mod sources;
 mod statements;
 mod terminals;
-#[cfg(test)]
-mod tests;
 pub mod tree;
 
 use ax_prog::tokens::Token;

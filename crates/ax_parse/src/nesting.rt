@@ -25,7 +25,7 @@ pub enum Class {
 }
 
 /// What is open behind a token.
-#[derive(Debug, Drop)]
+#[derive(Drop)]
 pub struct State {
     /// The counters of the levels around the innermost one, outermost first.
     pub around: Items<u32>,

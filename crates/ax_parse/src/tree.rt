@@ -6,14 +6,14 @@ use ax_prog::{Bin, Span};
 use sqlite_items::{Boxed, Items};
 
 /// A name, where it is declared.
-#[derive(Debug, Drop)]
+#[derive(Drop)]
 pub struct Name {
     pub span: Span,
     pub text: Items<u8>,
 }
 
 /// An expression. Its span leaves out parentheses around the whole, which leave no node.
-#[derive(Debug, Drop)]
+#[derive(Drop)]
 pub enum Expr {
     Name(Span, Items<u8>),
     Number(Span, i32),
@@ -21,7 +21,7 @@ pub enum Expr {
 }
 
 /// An item of a block: a statement or a declaration.
-#[derive(Debug, Drop)]
+#[derive(Drop)]
 pub enum Stmt {
     /// `int NAME;`
     Decl(Span, Name),
@@ -37,7 +37,7 @@ pub enum Stmt {
 }
 
 /// A source: the items of the body of `int main()`.
-#[derive(Debug, Drop)]
+#[derive(Drop)]
 pub struct Tree {
     pub span: Span,
     pub body: Items<Stmt>,

@@ -70,7 +70,7 @@ pub enum Bin {
 }
 
 /// The type of an object. An array has its element and its count.
-#[derive(Debug, Drop)]
+#[derive(Drop)]
 pub enum Ty {
     Int,
     Ptr(Boxed<Ty>),
@@ -80,7 +80,7 @@ pub enum Ty {
 
 /// An `int` expression without calls. `Cond` is `a ? b : c`.
 #[cycle(tree)]
-#[derive(Debug, Drop)]
+#[derive(Drop)]
 pub enum Expr {
     Num(i32),
     Atom(Boxed<Atom>),
@@ -92,7 +92,7 @@ pub enum Expr {
 /// A part of an `int` expression that a repair keeps whole: the value of a place, or whether two pointers are
 /// equal or differ.
 #[cycle(tree)]
-#[derive(Debug, Drop)]
+#[derive(Drop)]
 pub enum Atom {
     Read(Lval),
     Same(Pexpr, Pexpr),
@@ -101,7 +101,7 @@ pub enum Atom {
 
 /// A place. `Deref(Plus(p, i))` stands for `p[i]`, and a `Field` has its member's place in its struct, from 0.
 #[cycle(tree)]
-#[derive(Debug, Drop)]
+#[derive(Drop)]
 pub enum Lval {
     Var(VarId),
     Deref(Boxed<Pexpr>),
@@ -110,7 +110,7 @@ pub enum Lval {
 
 /// A pointer. `Decay` is the pointer to the first element of an array, and `Address` that of `&`.
 #[cycle(tree)]
-#[derive(Debug, Drop)]
+#[derive(Drop)]
 pub enum Pexpr {
     Null,
     Read(Boxed<Lval>),
@@ -124,7 +124,7 @@ pub enum Pexpr {
 /// returned or a printed value. `span` leaves out parentheses around the whole. `scope` has the `int` variables
 /// visible there in order of declaration, and `atoms` those of its expression as the source was read, in source
 /// order, repeats included.
-#[derive(Debug, Drop)]
+#[derive(Drop)]
 pub struct Slot {
     pub span: Span,
     pub expr: Expr,
@@ -133,14 +133,14 @@ pub struct Slot {
 }
 
 /// An argument of a call.
-#[derive(Debug, Drop)]
+#[derive(Drop)]
 pub enum Arg {
     Int(SlotId),
     Ptr(Pexpr),
 }
 
 /// What an assignment, an initialiser or a `return` takes.
-#[derive(Debug, Drop)]
+#[derive(Drop)]
 pub enum Value {
     Int(SlotId),
     Ptr(Pexpr),
@@ -148,7 +148,7 @@ pub enum Value {
 }
 
 /// What a declaration begins its object with. The initialiser of a global `int` is a `List` of its one number.
-#[derive(Debug, Drop)]
+#[derive(Drop)]
 pub enum Init {
     Nothing,
     Value(Value),
@@ -158,7 +158,7 @@ pub enum Init {
 /// A statement. `Change` is a compound assignment, on a pointer with `Add` or `Sub` alone; `Bump` adds 1 where it
 /// is `true` and else subtracts 1; `Read` is `scanf` and `Print` is `printf`. A condition that a `for` leaves out is
 /// `None`.
-#[derive(Debug, Drop)]
+#[derive(Drop)]
 pub enum Stmt {
     Empty,
     Block(Items<Stmt>),
@@ -179,14 +179,14 @@ pub enum Stmt {
 }
 
 /// A variable, or a parameter.
-#[derive(Debug, Drop)]
+#[derive(Drop)]
 pub struct Var {
     pub name: Items<u8>,
     pub ty: Ty,
 }
 
 /// A function. `result` is `None` for `void`.
-#[derive(Debug, Drop)]
+#[derive(Drop)]
 pub struct Fun {
     pub name: Items<u8>,
     pub params: Items<VarId>,
@@ -195,14 +195,14 @@ pub struct Fun {
 }
 
 /// A struct with the names and types of its members.
-#[derive(Debug, Drop)]
+#[derive(Drop)]
 pub struct Struct {
     pub name: Items<u8>,
     pub fields: Items<(Items<u8>, Ty)>,
 }
 
 /// A program: its globals with what they begin with, its functions, and which of them is `main`.
-#[derive(Debug, Drop)]
+#[derive(Drop)]
 pub struct Program {
     pub structs: Items<Struct>,
     pub vars: Items<Var>,
@@ -266,14 +266,14 @@ impl Program {
 }
 
 /// One test of a suite: the numbers handed in, the numbers wanted, and the number that `main` is to return.
-#[derive(Debug, Drop)]
+#[derive(Drop)]
 pub struct Test {
     pub inputs: Items<i32>,
     pub outputs: Items<i32>,
     pub ret: i32,
 }
 
-#[derive(Debug, Drop)]
+#[derive(Drop)]
 pub struct Suite {
     pub tests: Items<Test>,
 }
@@ -297,107 +297,4 @@ pub struct Bounds {
     pub steps: u32,
     pub evals: u32,
     pub grow: u32,
-}
-
-#[cfg(test)]
-mod tests {
-    use super::*;
-    use crate::copy::{copy_program, copy_suite, copy_tokens};
-    use crate::nodes::node_count;
-    use crate::same::same_expr;
-    use crate::tokens::{Kind, Token};
-
-    const NOWHERE: Span = Span { from: 0, to: 0 };
-
-    /// `- - .. 7` with that many signs.
-    fn negated(alloc: Global, signs: u32) -> Result<Expr, AllocError> {
-        let mut tree = Expr::Num(7);
-        for _ in 0..signs {
-            tree = Expr::Un(Un::Neg, Boxed::new(alloc, tree)?);
-        }
-        Ok(tree)
-    }
-
-    fn slot(alloc: Global, signs: u32) -> Result<Slot, AllocError> {
-        let expr = negated(alloc, signs)?;
-        Ok(Slot {
-            span: NOWHERE,
-            expr,
-            scope: Items::new(alloc),
-            atoms: Items::new(alloc),
-        })
-    }
-
-    /// `int x; int main() { printf("%d", ..); return ..; }`, and a third slot of 32 nodes.
-    fn sample(alloc: Global) -> Result<Program, AllocError> {
-        let mut vars = Items::new(alloc);
-        vars.push(Var {
-            name: Items::from_slice(alloc, b"x")?,
-            ty: Ty::Int,
-        })?;
-        let mut globals = Items::new(alloc);
-        globals.push((VarId(0), Init::List(Items::from_slice(alloc, &[3])?)))?;
-        let mut body = Items::new(alloc);
-        body.push(Stmt::Print(SlotId(0)))?;
-        body.push(Stmt::Return(Some(Value::Int(SlotId(1)))))?;
-        let name = Items::from_slice(alloc, b"main")?;
-        let mut funs = Items::new(alloc);
-        funs.push(Fun {
-            name,
-            params: Items::new(alloc),
-            result: Some(Ty::Int),
-            body,
-        })?;
-        let mut slots = Items::new(alloc);
-        slots.push(slot(alloc, 0)?)?;
-        slots.push(slot(alloc, 30)?)?;
-        slots.push(slot(alloc, 31)?)?;
-        Ok(Program {
-            structs: Items::new(alloc),
-            vars,
-            globals,
-            funs,
-            main: FunId(0),
-            slots,
-        })
-    }
-
-    #[test]
-    fn slots_are_found_and_replaced(rt: HostRuntime) -> Result<(), AllocError> {
-        let alloc = rt.alloc();
-        let program = sample(alloc)?;
-        assert!(rt; program.candidates(alloc)?.as_slice() == [SlotId(0), SlotId(1)].as_slice());
-        assert!(rt; program.slots.len() == 3);
-        assert_eq!(rt; node_count(program.expr_at(SlotId(2))), 32);
-        let copy = copy_program(alloc, &program)?;
-        assert!(rt; copy.slots.len() == 3);
-        let changed = copy.substitute(alloc, SlotId(2), Expr::Num(5))?;
-        assert!(rt; changed.slots.len() == 3);
-        assert!(rt; same_expr(changed.expr_at(SlotId(1)), program.expr_at(SlotId(1))));
-        assert!(rt; same_expr(changed.expr_at(SlotId(2)), &Expr::Num(5)));
-        assert_eq!(rt; changed.candidates(alloc)?.len(), 3);
-        Ok(())
-    }
-
-    #[test]
-    fn suites_and_tokens_are_copied(rt: HostRuntime) -> Result<(), AllocError> {
-        let alloc = rt.alloc();
-        let mut tests = Items::new(alloc);
-        tests.push(Test {
-            inputs: Items::from_slice(alloc, &[1, 2])?,
-            outputs: Items::new(alloc),
-            ret: -1,
-        })?;
-        let suite = copy_suite(alloc, &Suite { tests })?;
-        assert_eq!(rt; suite.tests.len(), 1);
-        let tokens = copy_tokens(
-            alloc,
-            &[Token {
-                kind: Kind::Number(4),
-                span: NOWHERE,
-            }],
-        )?;
-        assert_eq!(rt; tokens.len(), 1);
-        Ok(())
-    }
 }

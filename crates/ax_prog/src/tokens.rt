@@ -3,14 +3,14 @@ use crate::Span;
 use sqlite_items::Items;
 
 /// A token and the bytes that it stands at.
-#[derive(Debug, Drop)]
+#[derive(Drop)]
 pub struct Token {
     pub kind: Kind,
     pub span: Span,
 }
 
 /// What a token is. A `Number` is from 0 to 2147483647. A `Format` is 0 for `"%d"`, 1 for `"%d\n"` and 2 for `"%d "`.
-#[derive(Debug, Drop)]
+#[derive(Drop)]
 pub enum Kind {
     Name(Items<u8>),
     Number(i32),

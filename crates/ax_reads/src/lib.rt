@@ -11,9 +11,6 @@ ghost use Rattle.ax_parse.specs.Grammar.{SpellsTree};
 ghost use Rattle.ax_names.specs.Rules.{IsProgramOf};
 ghost use Rattle.ax_reads.specs.Spans.{LiesIn, SlotsLie, SlotsFit, SlotsRise};
 
-#[cfg(test)]
-mod tests;
-
 use ax_prog::Span;
 
 /// Whether the span is a stretch of a text of `len` bytes.

@@ -1,5 +1,5 @@
 use crate::{SuiteFault, read_suite};
-use std::test::Fail;
+use std::alloc::{AllocError, Global};
 
 // Texts, with how many tests they have or what is wrong with them.
 const TEXTS: [(&str, Result<usize, SuiteFault>); 17] = [
@@ -31,58 +31,70 @@ const TEXTS: [(&str, Result<usize, SuiteFault>); 17] = [
     ("[{\"ret\": \"x\", \"ret\": 3}]", Ok(1)),
 ];
 
+// How many tests the suite of a text has, or what is wrong with it.
+fn count(alloc: Global, text: &str) -> Result<usize, SuiteFault> {
+    let suite = read_suite(alloc, text.as_bytes())?;
+    Ok(suite.tests.len())
+}
+
 #[test]
 fn texts_are_suites_or_faulty(rt: HostRuntime) {
-    for (text, want) in TEXTS {
-        let found = read_suite(rt.alloc(), text.as_bytes()).map(|suite| suite.tests.len());
-        assert_eq!(rt; found, want, "at {text}");
+    for (text, want) in &TEXTS {
+        assert!(rt; count(rt.alloc(), text) == *want, "at {text}");
     }
 }
 
+// A text of `before`, so many times `middle`, and `behind`.
+fn repeated(
+    alloc: Global,
+    before: &str,
+    middle: &str,
+    times: u32,
+    behind: &str,
+) -> Result<String, AllocError> {
+    let mut text = String::from_str(alloc, before)?;
+    for _ in 0..times {
+        text.push_str(middle)?;
+    }
+    text.push_str(behind)?;
+    Ok(text)
+}
+
 #[test]
-fn lists_have_an_end(rt: HostRuntime) -> Result<(), Fail> {
+fn lists_have_an_end(rt: HostRuntime) -> Result<(), AllocError> {
+    let rows = [
+        ("[{}", ",{}", 255, "]", Ok(256)),
+        ("[{}", ",{}", 256, "]", Err(SuiteFault::TooMany(0))),
+        ("[{\"out\":[7", ",7", 4095, "]}]", Ok(1)),
+        (
+            "[{\"out\":[7",
+            ",7",
+            4096,
+            "]}]",
+            Err(SuiteFault::TooMany(1)),
+        ),
+    ];
     let alloc = rt.alloc();
-    let mut text = String::from_str(alloc, "[{}")?;
-    for _ in 1..256 {
-        text.push_str(",{}")?;
+    for (before, middle, times, behind, want) in &rows {
+        let text = repeated(alloc, before, middle, *times, behind)?;
+        assert!(rt; count(alloc, &text) == *want, "{times} times {middle}");
     }
-    let mut more = text.clone()?;
-    text.push_str("]")?;
-    more.push_str(",{}]")?;
-    assert!(rt; read_suite(alloc, text.as_bytes()).is_ok());
-    assert!(rt;
-        matches!(
-            read_suite(alloc, more.as_bytes()),
-            Err(SuiteFault::TooMany(0))
-        )
-    );
-
-    let mut text = String::from_str(alloc, "[{\"out\":[7")?;
-    for _ in 1..4096 {
-        text.push_str(",7")?;
-    }
-    let mut more = text.clone()?;
-    text.push_str("]}]")?;
-    more.push_str(",7]}]")?;
-    assert!(rt; read_suite(alloc, text.as_bytes()).is_ok());
-    assert!(rt;
-        matches!(
-            read_suite(alloc, more.as_bytes()),
-            Err(SuiteFault::TooMany(1))
-        )
-    );
     Ok(())
 }
 
 #[test]
-fn a_suite_has_its_numbers(rt: HostRuntime) -> Result<(), Fail> {
-    let suite = read_suite(rt.alloc(), b"[{\"in\":[1,2],\"out\":[3]},{\"ret\":4}]")?;
-    let tests = suite.tests.as_slice();
-    assert_eq!(rt; tests.len(), 2);
-    assert_eq!(rt; tests[0].inputs.as_slice(), [1, 2].as_slice());
-    assert_eq!(rt; tests[0].outputs.as_slice(), [3].as_slice());
-    assert_eq!(rt; tests[0].ret, 0);
-    assert_eq!(rt; tests[1].inputs.len(), 0);
-    assert_eq!(rt; tests[1].ret, 4);
-    Ok(())
+fn a_suite_has_its_numbers(rt: HostRuntime) {
+    let text = b"[{\"in\":[1,2],\"out\":[3]},{\"ret\":4}]";
+    match read_suite(rt.alloc(), text) {
+        Ok(suite) => {
+            let tests = suite.tests.as_slice();
+            assert!(rt; tests.len() == 2);
+            assert!(rt; tests[0].inputs.as_slice() == [1, 2].as_slice());
+            assert!(rt; tests[0].outputs.as_slice() == [3].as_slice());
+            assert!(rt; tests[0].ret == 0);
+            assert!(rt; tests[1].inputs.is_empty());
+            assert!(rt; tests[1].ret == 4);
+        }
+        Err(fault) => assert!(rt; false, "{fault:?}"),
+    }
 }

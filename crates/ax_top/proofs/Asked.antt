@@ -1,6 +1,6 @@
 -- What an order is judged by is what is asked.
-use Rattle.std.proofs.Common.{◌≡◌, ◌∙◌, ℕ, List, [], ◌∷◌, Some, None, ap, refl, sym, subst, string_bytes}
-use Rattle.std.specs.Prelude.{Option, Ok, if◌then◌else◌, option_and_then, option_map}
+use Rattle.std.proofs.Common.{◌≡◌, ◌∙◌, ℕ, List, Some, ap, sym, subst, string_bytes}
+use Rattle.std.specs.Prelude.{Ok}
 use Rattle.std.proofs.lemmas.Option.{same_Some}
 use Rattle.ax_prog.specs.declared.Bounds.{Bounds}
 use Rattle.ax_prog.specs.declared.Program.{Program}
@@ -14,6 +14,9 @@ use Rattle.ax_least.specs.Least.{IsRepair}
 use Rattle.ax_front.specs.Texts.{IsProgramOfText}
 use Rattle.ax_front.proofs.Refusals.{one_program_of_text}
 use Rattle.ax_suite.proofs.Single.{one_suite}
+use Rattle.ax_coverage.specs.Handed.{Handed, ranker_named}
+use Rattle.ax_coverage.specs.Orders.{IsOrderOf, OneCandidateOrder, first_numbers}
+use Rattle.ax_ranking.specs.declared.places.Standing.{Standing}
 use Rattle.ax_outside.specs.Seen.{IsWhole, Seen, Told}
 use Rattle.ax_words.specs.Laws.{SameChoice, SameRepair}
 use Rattle.ax_words.specs.Words.{Says}
@@ -23,11 +26,11 @@ use Rattle.ax_words.specs.declared.order.Order.TheVariants.{Repair}
 use Rattle.ax_words.specs.declared.order.RepairOrder.{RepairOrder}
 use Rattle.ax_words.proofs.Single.{one_order}
 use Rattle.ax_top.specs.declared.files.File.TheVariants as file
-use Rattle.ax_top.specs.Built.{are_comparisons, candidate_at, chosen_of, only, small_slot, space_for}
+use Rattle.ax_top.specs.Built.{chosen_of, space_for}
+use Rattle.ax_top.specs.Choices.{ChoosesNumbers, IsChoice}
 use Rattle.ax_top.specs.Complete.{IsAsked}
 use Rattle.ax_top.specs.Files.{WasRead, limit_of}
 use Rattle.ax_top.specs.Judging.{IsSource, IsTests}
-use Rattle.ax_top.specs.Orders.{numbers_of}
 use Rattle.ax_top.specs.Repairs.{IsSought}
 
 -- ---- tasks
@@ -55,27 +58,34 @@ module _ (p q : Program) (ts us : List Test) (a b : RepairOrder) (ids others : L
 
 -- ---- orders
 
-pub same-numbers : (a b : Choice) → SameChoice a b → numbers_of a ≡ numbers_of b
-same-numbers (Top count formula) (Top number name) h = refl
-same-numbers (Top count formula) (Pick others) h = absurd h
-same-numbers (Pick numbers) (Top number name) h = absurd h
-same-numbers (Pick numbers) (Pick others) h = h
+-- choices that are the same choose the same numbers
+same-numbers : OneCandidateOrder → (rankers : List Handed) (program : Program) (tests : List Test) (steps : ℕ) (a b : Choice) (ns ms : List ℕ)
+    → SameChoice a b → IsChoice rankers program tests steps a ns → IsChoice rankers program tests steps b ms → ns ≡ ms
+same-numbers law rankers program tests steps (Pick numbers) (Pick others) ns ms h is it = is ∙ h ∙ sym it
+same-numbers law rankers program tests steps (Pick numbers) (Top number name) ns ms h is it = absurd h
+same-numbers law rankers program tests steps (Top count formula) (Pick others) ns ms h is it = absurd h
+same-numbers law rankers program tests steps (Top count formula) (Top number name) ns ms h is it =
+    let ranker : is.0 ≡ it.0 = same_Some is.0 it.0 (sym is.1 ∙ ap (λ (n : List ℕ). ranker_named rankers n) h.1 ∙ it.1) in
+    let moved : IsOrderOf (it.0).formula (it.0).runs program steps tests is.2.0 =
+    subst (λ (r : Handed). IsOrderOf r.formula r.runs program steps tests is.2.0) ranker is.2.1 in
+    let order : is.2.0 ≡ it.2.0 = law (it.0).formula (it.0).runs program steps tests is.2.0 it.2.0 moved it.2.1 in
+    is.2.2 ∙ ap (λ (o : List Standing). first_numbers count o) order ∙ ap (λ (k : ℕ). first_numbers k it.2.0) h.0 ∙ sym it.2.2
 
--- the chosen expressions by the sets and the picked numbers of an order
-abbrev pub chosen-by : Program → Sets → List ℕ → Option (List SlotId)
-chosen-by program sets numbers = option_map (λ (id : SlotId). id ∷ [])
-    (if are_comparisons sets then option_and_then (λ number. option_and_then (small_slot program) (candidate_at program number)) (only numbers) else None)
+moved-choice : (rankers : List Handed) (p q : Program) (ts us : List Test) (k m : ℕ) (a : Choice) (ns : List ℕ) → p ≡ q → ts ≡ us → k ≡ m
+    → IsChoice rankers p ts k a ns → IsChoice rankers q us m a ns
+moved-choice rankers p q ts us k m a ns ep et ek h =
+    let one = subst (λ (x : Program). IsChoice rankers x ts k a ns) ep h in
+    let two = subst (λ (x : List Test). IsChoice rankers q x k a ns) et one in
+    subst (λ (x : ℕ). IsChoice rankers q us x a ns) ek two
 
-same-chosen : (p q : Program) (a b : RepairOrder) → p ≡ q → SameRepair a b → chosen_of p a ≡ chosen_of q b
-same-chosen p q a b e same =
-    ap (λ (x : Program). chosen-by x a.sets (numbers_of a.choice)) e
-    ∙ ap (λ (x : Sets). chosen-by q x (numbers_of a.choice)) same.sets
-    ∙ ap (λ (x : List ℕ). chosen-by q b.sets x) (same-numbers a.choice b.choice same.choice)
+same-chosen : (p q : Program) (s u : Sets) (ns ms : List ℕ) → p ≡ q → s ≡ u → ns ≡ ms → chosen_of p s ns ≡ chosen_of q u ms
+same-chosen p q s u ns ms ep es en =
+    ap (λ (x : Program). chosen_of x s ns) ep ∙ ap (λ (x : Sets). chosen_of q x ns) es ∙ ap (λ (x : List ℕ). chosen_of q u x) en
 
 -- ---- what is asked
 
-module _ (old : Seen) (words : List (List ℕ)) (o : RepairOrder) (program : Program) (suite : Suite) (chosen : List SlotId)
-    (asked : IsAsked old words o program suite chosen) where
+module _ (law : OneCandidateOrder) (old : Seen) (rankers : List Handed) (words : List (List ℕ)) (o : RepairOrder) (program : Program) (suite : Suite) (chosen : List SlotId)
+    (asked : IsAsked old rankers words o program suite chosen) where
   -- words give one order
   pub same-order : (it : RepairOrder) → Says words (Ok (Repair it)) → SameRepair it o
   same-order it says = one_order words (Repair it) (Repair o) says asked.says
@@ -97,16 +107,22 @@ module _ (old : Seen) (words : List (List ℕ)) (o : RepairOrder) (program : Pro
         let here = subst (λ (t : Told). IsTests t s) tests-told is in
         one_suite asked.tests s.tests suite.tests here.1 asked.tested
 
-    pub built-there : (p : Program) → p ≡ program → chosen_of p it ≡ Some chosen
-    built-there p e = same-chosen p program it o e same ∙ asked.built
+    -- what the order chooses is what is asked
+    pub chosen-there : (p : Program) (ts : List Test) (ns : List ℕ) → p ≡ program → ts ≡ suite.tests → ChoosesNumbers rankers it p ts ns
+        → chosen_of p it.sets ns ≡ Some chosen
+    chosen-there p ts ns ep et h =
+        let here = moved-choice rankers p program ts suite.tests it.bounds.steps o.bounds.steps it.choice ns ep et (ap (λ (b : Bounds). b.steps) same.bounds) h in
+        let numbers = same-numbers law rankers program suite.tests o.bounds.steps it.choice o.choice ns asked.numbers same.choice here asked.is_chosen.choice in
+        same-chosen p program it.sets o.sets ns asked.numbers ep same.sets numbers ∙ asked.is_chosen.built
 
-    pub same-task : (titles : List (List ℕ)) (bytes : List ℕ) (p : Program) (s : Suite) (ids : List SlotId) → IsSought old titles it bytes p s ids
+    pub same-task : (bytes : List ℕ) (p : Program) (s : Suite) (ns : List ℕ) (ids : List SlotId) → IsSought old rankers it bytes p s ns ids
         → SameTask p s.tests it ids program suite.tests o chosen
-    same-task titles bytes p s ids is =
-        let e : p ≡ program = same-program bytes p is.fine.files.spelled in record {
+    same-task bytes p s ns ids is =
+        let e : p ≡ program = same-program bytes p is.fine.files.spelled in
+        let t : s.tests ≡ suite.tests = same-tests s is.fine.files.tested in record {
           program = e;
-          tests = same-tests s is.fine.files.tested;
+          tests = t;
           bounds = same.bounds;
           sets = same.sets;
-          chosen = same_Some ids chosen (sym is.built ∙ built-there p e);
+          chosen = same_Some ids chosen (sym is.is_chosen.built ∙ chosen-there p s.tests ns e t is.is_chosen.choice);
         }

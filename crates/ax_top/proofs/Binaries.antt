@@ -1,5 +1,5 @@
 -- Binary operators of a tree made by a constructor's plain word.
-use Rattle.std.proofs.Common.{◌≡◌, ℕ, ◌+◌, ℤ, refl}
+use Rattle.std.proofs.Common.{◌≡◌, ◌+◌, ℤ, refl}
 use Rattle.ax_prog.specs.declared.Un.{Un}
 use Rattle.ax_prog.specs.declared.Bin.{Bin}
 use Rattle.ax_prog.specs.declared.Atom.{Atom}

@@ -24,6 +24,7 @@ use Rattle.ax_repair.specs.Written.{is_changed, written}
 use Rattle.ax_repair.specs.declared.Repaired.{Repaired}
 use Rattle.ax_back.specs.Changes.{IsFree}
 use Rattle.ax_mended.specs.Reading.{AreComparisons, ComparisonsAreWritable, PassesBack, RepairedPasses, StaysAtCost0}
+use Rattle.ax_coverage.specs.Handed.{Handed}
 use Rattle.ax_outside.specs.Seen.{Seen}
 use Rattle.ax_words.specs.declared.order.RepairOrder.{RepairOrder}
 use Rattle.ax_top.specs.declared.answer.Answer.{Answer}
@@ -31,8 +32,9 @@ use Rattle.ax_top.specs.declared.built.Picked.{Picked}
 use Rattle.ax_top.specs.declared.files.Stop.{Stop}
 use Rattle.ax_top.specs.declared.files.Stop.TheVariants as stop
 use Rattle.ax_top.specs.Built.{IsPicked, are_comparisons, built_slot, candidate_at, chosen_of, has_few, is_free, only, small_slot}
-use Rattle.ax_top.specs.Orders.{RepairIsFine, numbers_of}
-use Rattle.ax_top.specs.Repairs.{IsAnswer, IsMended, RepairEnds, Searched, memory, repaired_report, unbuilt}
+use Rattle.ax_top.specs.Choices.{ChoosesNumbers}
+use Rattle.ax_top.specs.Orders.{RepairIsFine}
+use Rattle.ax_top.specs.Repairs.{Answered, IsAnswer, IsMended, RepairEnds, Searched, memory, repaired_report, unbuilt}
 
 -- whether a tree isn't the slot's own
 pub changed-is : (program : Program) (id : SlotId) (tree : Expr) (slot : Slot) (same : Bool) → Some slot ≡ slot_at program id
@@ -90,9 +92,9 @@ by-sets program true (n ∷ []) number id e h =
     record { comparisons = refl; candidate = subst (λ k. candidate_at program k ≡ Some id) same small.0; free = small.1 }
 by-sets program true (n ∷ m ∷ ns) number id e h = absurd (cc)
 
-opens : (program : Program) (o : RepairOrder) (picked : Picked) → IsPicked program o picked
-    → Opens program (are_comparisons o.sets) picked.number picked.slot
-opens program o picked is = by-sets program (are_comparisons o.sets) (numbers_of o.choice) picked.number picked.slot is.number is.slot
+opens : (program : Program) (sets : Sets) (picked : Picked) → IsPicked program sets picked
+    → Opens program (are_comparisons sets) picked.number picked.slot
+opens program sets picked is = by-sets program (are_comparisons sets) (picked.number ∷ []) picked.number picked.slot refl is
 
 all-one : {X : Type 0} (P : X → Type 0) (x : X) → P x → All P (x ∷ [])
 all-one P x h zero d lt = h
@@ -102,10 +104,10 @@ pairs-one : {X : Type 0} (R : X → X → Type 0) (x : X) → AllPairs R (x ∷ 
 pairs-one R x i j d less lt = absurd (omega arith)
 
 -- the picked slot is a candidate's
-pub picked-chosen : (program : Program) (o : RepairOrder) (picked : Picked) → IsPicked program o picked → AreChosen program (picked.slot ∷ [])
-picked-chosen program o picked is = record {
+pub picked-chosen : (program : Program) (sets : Sets) (picked : Picked) → IsPicked program sets picked → AreChosen program (picked.slot ∷ [])
+picked-chosen program sets picked is = record {
   candidates = all-one (Contains (candidates_of program)) picked.slot
-      (contains-at (candidates_of program) (picked.number - 1) picked.slot (opens program o picked is).candidate);
+      (contains-at (candidates_of program) (picked.number - 1) picked.slot (opens program sets picked is).candidate);
   rising = pairs-one (λ (a b : SlotId). a.0 < b.0) picked.slot;
   few = omega arith;
 }
@@ -130,12 +132,12 @@ comparisons-alone s h =
 
 -- what is written for a repair reads back
 pub passes-back : ComparisonsAreWritable → RepairedPasses → (source : List ℕ) (program : Program) (tests : List Test) (o : RepairOrder) (picked : Picked) (patch : Patch)
-    → IsProgramOfText source program → IsPicked program o picked
+    → IsProgramOfText source program → IsPicked program o.sets picked
     → IsRepair program tests o.bounds (space_of program (picked.slot ∷ []) o.sets o.bounds.grow) patch
     → PassesBack source program tests o.bounds (picked.slot ∷ []) patch
 passes-back writable law source program tests o picked patch read is repair =
-    let chosen = picked-chosen program o picked is in
-    let open' = opens program o picked is in
+    let chosen = picked-chosen program o.sets picked is in
+    let open' = opens program o.sets picked is in
     law source program tests o.bounds (picked.slot ∷ []) o.sets o.bounds.grow patch
     (record {
       text = read;
@@ -147,18 +149,18 @@ passes-back writable law source program tests o picked patch read is repair =
 
 -- at cost 0 what is written is the source
 stays : StaysAtCost0 → (source : List ℕ) (program : Program) (o : RepairOrder) (picked : Picked) (patch : Patch) (cost : ℕ)
-    → IsPicked program o picked → PatchCost (space_of program (picked.slot ∷ []) o.sets o.bounds.grow) patch cost
+    → IsPicked program o.sets picked → PatchCost (space_of program (picked.slot ∷ []) o.sets o.bounds.grow) patch cost
     → cost ≡ 0 → written source program (picked.slot ∷ []) patch.trees ≡ source
 stays law source program o picked patch cost is costs free =
-    law source program (picked.slot ∷ []) o.sets o.bounds.grow patch (picked-chosen program o picked is)
+    law source program (picked.slot ∷ []) o.sets o.bounds.grow patch (picked-chosen program o.sets picked is)
     (subst (λ (n : ℕ). PatchCost (space_of program (picked.slot ∷ []) o.sets o.bounds.grow) patch n) free costs)
 
 -- from the outcome of the search to the answer
 pub mended : ComparisonsAreWritable → RepairedPasses → StaysAtCost0 → (source : List ℕ) (program : Program) (tests : List Test) (o : RepairOrder) (picked : Picked) (it : Repaired) (report : List ℕ)
-    → IsProgramOfText source program → IsPicked program o picked
+    → IsProgramOfText source program → IsPicked program o.sets picked
     → IsRepaired program source tests o.bounds (space_of program (picked.slot ∷ []) o.sets o.bounds.grow) it
     → report ≡ repaired_report source program (picked.number ∷ []) (picked.slot ∷ []) (it.patch).trees it.cost
-    → IsMended o source program tests (picked.slot ∷ []) it.source report
+    → IsMended o source program tests (picked.number ∷ []) (picked.slot ∷ []) it.source report
 mended writable law unchanged source program tests o picked it report read is found said = record {
   patch = it.patch;
   cost = it.cost;
@@ -166,28 +168,59 @@ mended writable law unchanged source program tests o picked it report read is fo
   is_text = found.text;
   back = passes-back writable law source program tests o picked it.patch read is (found.least).repair;
   unchanged = λ free. found.text ∙ stays unchanged source program o picked it.patch it.cost is (found.least).costs free;
-  is_report = said ∙ ap (λ (numbers : List ℕ). repaired_report source program numbers (picked.slot ∷ []) (it.patch).trees it.cost) (sym is.number);
+  is_report = said;
 }
 
-pub chosen-is : (program : Program) (o : RepairOrder) (slot : SlotId) → built_slot program o ≡ Some slot → chosen_of program o ≡ Some (slot ∷ [])
-chosen-is program o slot e = ap (λ (found : Option SlotId). option_map (λ (id : SlotId). id ∷ []) found) e
+-- what was chosen, and what came of it
+pub answered-is : (o : RepairOrder) (source : List ℕ) (program : Program) (tests : List Test) (picked : Picked) (numbers : List ℕ) (it : Answer)
+    → numbers ≡ picked.number ∷ [] → IsPicked program o.sets picked
+    → IsAnswer o source program tests (picked.number ∷ []) (picked.slot ∷ []) it → Answered o source program tests numbers (Ok it)
+answered-is o source program tests picked numbers it e is h = (
+  picked.slot ∷ [],
+  ap (λ (ns : List ℕ). chosen_of program o.sets ns) e ∙ ap (λ (found : Option SlotId). option_map (λ (id : SlotId). id ∷ []) found) is,
+  subst (λ (ns : List ℕ). IsAnswer o source program tests ns (picked.slot ∷ []) it) (sym e) h,
+)
+
+pub unbuilt-is : (program : Program) (sets : Sets) (numbers : List ℕ) → built_slot program sets numbers ≡ None → chosen_of program sets numbers ≡ None
+unbuilt-is program sets numbers e = ap (λ (found : Option SlotId). option_map (λ (id : SlotId). id ∷ []) found) e
+
+-- from the answer for some numbers to the search
+pub searched : (rankers : List Handed) (o : RepairOrder) (source : List ℕ) (program : Program) (tests : List Test) (numbers : List ℕ) (r : Result Answer Stop)
+    → ChoosesNumbers rankers o program tests numbers → Answered o source program tests numbers r → Searched rankers o source program tests r
+searched rankers o source program tests numbers (Ok it) is h = (numbers, h.0, record { choice = is; built = h.1 }, h.2)
+searched rankers o source program tests numbers (Err stop.Memory) is h = tt
+searched rankers o source program tests numbers (Err stop.NotBuilt) is h = record { numbers = numbers; choice = is; none = h }
+searched rankers o source program tests numbers (Err stop.NoRanker) is h = absurd h
+searched rankers o source program tests numbers (Err (stop.ReadFailed file)) is h = absurd h
+searched rankers o source program tests numbers (Err (stop.TooLong file)) is h = absurd h
+searched rankers o source program tests numbers (Err (stop.Source fault)) is h = absurd h
+searched rankers o source program tests numbers (Err (stop.Suite fault)) is h = absurd h
+searched rankers o source program tests numbers (Err (stop.NoCandidate picked count)) is h = absurd h
+
+-- the tests and the numbers were lent
+pub searched-lent : (rankers : List Handed) (o : RepairOrder) (source : List ℕ) (program : Program) (ts tests : List Test) (ns numbers : List ℕ) (r : Result Answer Stop)
+    → ts ≡ tests → ns ≡ numbers → ChoosesNumbers rankers o program ts numbers → Answered o source program tests ns r → Searched rankers o source program tests r
+searched-lent rankers o source program ts tests ns numbers r a b is h =
+    searched rankers o source program tests numbers r (subst (λ (l : List Test). ChoosesNumbers rankers o program l numbers) a is)
+    (subst (λ (l : List ℕ). Answered o source program tests l r) b h)
 
 -- from a search to the end of the order
-pub repair-ends : (old new : Seen) (titles : List (List ℕ)) (o : RepairOrder) (bytes text : List ℕ) (program : Program) (suite : Suite) (r : Result Answer Stop)
-    → text ≡ bytes → RepairIsFine old titles o bytes program suite → Searched o text program suite.tests r → RepairEnds old new titles o r
-repair-ends old new titles o bytes text program suite (Ok it) same fine h = record {
+pub repair-ends : (old new : Seen) (rankers : List Handed) (o : RepairOrder) (bytes text : List ℕ) (program : Program) (suite : Suite) (r : Result Answer Stop)
+    → text ≡ bytes → RepairIsFine old rankers o bytes program suite → Searched rankers o text program suite.tests r → RepairEnds old new rankers o r
+repair-ends old new rankers o bytes text program suite (Ok it) same fine h = record {
   source = bytes;
   program = program;
   suite = suite;
-  chosen = h.0;
-  sought = record { fine = fine; built = h.1 };
-  answered = subst (λ (t : List ℕ). IsAnswer o t program suite.tests h.0 it) same h.2;
+  numbers = h.0;
+  chosen = h.1;
+  sought = record { fine = fine; is_chosen = h.2 };
+  answered = subst (λ (t : List ℕ). IsAnswer o t program suite.tests h.0 h.1 it) same h.3;
 }
-repair-ends old new titles o bytes text program suite (Err stop.Memory) same fine h = memory refl
-repair-ends old new titles o bytes text program suite (Err stop.NotBuilt) same fine h = unbuilt bytes program suite fine h refl
-repair-ends old new titles o bytes text program suite (Err stop.NoRanker) same fine h = absurd h
-repair-ends old new titles o bytes text program suite (Err (stop.ReadFailed file)) same fine h = absurd h
-repair-ends old new titles o bytes text program suite (Err (stop.TooLong file)) same fine h = absurd h
-repair-ends old new titles o bytes text program suite (Err (stop.Source fault)) same fine h = absurd h
-repair-ends old new titles o bytes text program suite (Err (stop.Suite fault)) same fine h = absurd h
-repair-ends old new titles o bytes text program suite (Err (stop.NoCandidate picked count)) same fine h = absurd h
+repair-ends old new rankers o bytes text program suite (Err stop.Memory) same fine h = memory refl
+repair-ends old new rankers o bytes text program suite (Err stop.NotBuilt) same fine h = unbuilt bytes program suite fine h refl
+repair-ends old new rankers o bytes text program suite (Err stop.NoRanker) same fine h = absurd h
+repair-ends old new rankers o bytes text program suite (Err (stop.ReadFailed file)) same fine h = absurd h
+repair-ends old new rankers o bytes text program suite (Err (stop.TooLong file)) same fine h = absurd h
+repair-ends old new rankers o bytes text program suite (Err (stop.Source fault)) same fine h = absurd h
+repair-ends old new rankers o bytes text program suite (Err (stop.Suite fault)) same fine h = absurd h
+repair-ends old new rankers o bytes text program suite (Err (stop.NoCandidate picked count)) same fine h = absurd h

@@ -63,3 +63,4 @@ module _ (old mid new : Seen) (out : List ℕ) (status : ℕ) where
   pub gives-after : (it : Answer) → Same old mid → NoLess old mid → Gives mid new out it status → Gives old new out it status
   gives-after (answer.Repaired text lines) same less d = delivers-after old mid new out text lines 0 status same less d
   gives-after answer.NoRepair same less r = reports-after old mid new no_repair_report 1 status same less r
+  gives-after (answer.Reported told) same less r = reports-after old mid new told.report told.status status same less r

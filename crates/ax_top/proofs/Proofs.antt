@@ -1,8 +1,9 @@
 -- What an order to prove promises, from what the program does.
-use Rattle.std.proofs.Common.{◌≡◌, ◌∙◌, ℕ, List, sym, subst, string_bytes, String, Global, inl, inr, arith}
+use Rattle.std.proofs.Common.{◌≡◌, ◌∙◌, ◌≤◌, ℕ, List, [], sym, subst, string_bytes, String, Global, inl, inr, arith}
 use Rattle.std.specs.Prelude.{◌⊎◌, Result, Ok, Err}
 use Rattle.ax_dimacs.specs.Clauses.{Formula, formula_of}
 use Rattle.ax_prove.specs.Outcomes.{HasModel}
+use Rattle.ax_coverage.specs.Handed.{Handed}
 use Rattle.ax_outside.specs.Seen.{Adds, AddsPart, Rose, Seen}
 use Rattle.ax_words.specs.declared.order.Order.{Order}
 use Rattle.ax_words.specs.declared.order.Order.TheVariants.{Check, Gen, Prove, Rank, Repair, Run}
@@ -13,12 +14,13 @@ use Rattle.ax_top.specs.declared.answer.Answer.{Answer}
 use Rattle.ax_top.specs.declared.answer.Answer.TheVariants as answer
 use Rattle.ax_top.specs.declared.files.Stop.{Stop}
 use Rattle.ax_top.specs.declared.files.Stop.TheVariants as stop
-use Rattle.ax_top.specs.Causes.{Does, answered, memory, proves, refused, stopped}
+use Rattle.ax_top.specs.Causes.{Does, answered, memory, proves, refused, stopped, told}
 use Rattle.ax_top.specs.Delivery.{Delivery, Gives, print_failed, put_failed, whole}
 use Rattle.ax_top.specs.Ends.{Stops}
 use Rattle.ax_top.specs.Proving.{AsksToProve, DoesProve, IsUndecided, Proving, RanOut, RefusedCnf, wants_memory}
-use Rattle.ax_top.specs.Repairs.{no_repair_report}
+use Rattle.ax_top.specs.Repairs.{Answers, no_repair_report}
 use Rattle.ax_top.specs.Reports.{stop_status}
+use Rattle.ax_top.proofs.Told.{no-proof, own-small}
 use Rattle.ax_top.proofs.Proven.{asked-ends, proven}
 
 same-formula : (r : Result Formula ℕ) (x y : Formula) → r ≡ Ok x → r ≡ Ok y → x ≡ y
@@ -56,30 +58,40 @@ module _ (status : ℕ) where
     by-report (inl done) = is-other 1 (λ h. omega arith) (λ h. omega arith) done.0
     by-report (inr failed) = is-other 7 (λ h. omega arith) (λ h. omega arith) failed.0
 
-    by-answer : (it : Answer) → Gives old new out it status → IsOther
-    by-answer (answer.Repaired text report) d = by-delivery text report d.ended
-    by-answer answer.NoRepair r = by-report r.ended
+    by-answer : (rankers : List Handed) (o : RepairOrder) (it : Answer) → Answers old rankers o it → Gives old new out it status → IsOther
+    by-answer rankers o (answer.Repaired text report) a d = by-delivery text report d.ended
+    by-answer rankers o answer.NoRepair a r = by-report r.ended
+    by-answer rankers o (answer.Reported it) a r = absurd a.answered
 
-module _ (old new : Seen) (titles words : List (List ℕ)) (status : ℕ) where
-  nine : Does old new titles words status → status ≡ 9 → RanOut old new words
+    by-told : (own : ℕ) (report : List ℕ) → own ≤ 1
+        → ((status ≡ own) × Adds old.printed report new.printed) ⊎ ((status ≡ 7) × AddsPart old.printed report new.printed × Rose old.prints new.prints) → IsOther
+    by-told own report small (inl done) = is-other own (λ h. omega arith) (λ h. omega arith) done.0
+    by-told own report small (inr failed) = is-other 7 (λ h. omega arith) (λ h. omega arith) failed.0
+
+module _ (old new : Seen) (rankers : List Handed) (words : List (List ℕ)) (status : ℕ) where
+  nine : Does old new rankers words status → status ≡ 9 → RanOut old new words
   nine (memory e same less) h = absurd (omega arith)
   nine (refused fault m says e f) h = absurd (omega arith)
   nine (stopped order why mid says stops same less e f) h = absurd ((by-stop status why e).0 h)
-  nine (answered o it says a gives) h = absurd ((by-answer status old new (string_bytes o.out) it gives).0 h)
+  nine (answered o it says a gives) h = absurd ((by-answer status old new (string_bytes o.out) rankers o it a gives).0 h)
+  nine (told order report own says tells gives) h =
+      absurd ((by-told status old new [] own report (own-small old rankers order report own tells) gives.ended).0 h)
   nine (proves cnf proof budget says d) h = (proven old new words status cnf proof budget says d).nine h
 
-  thirteen : Does old new titles words status → status ≡ 13 → RefusedCnf old new words
+  thirteen : Does old new rankers words status → status ≡ 13 → RefusedCnf old new words
   thirteen (memory e same less) h = absurd (omega arith)
   thirteen (refused fault m says e f) h = absurd (omega arith)
   thirteen (stopped order why mid says stops same less e f) h = absurd ((by-stop status why e).1 h)
-  thirteen (answered o it says a gives) h = absurd ((by-answer status old new (string_bytes o.out) it gives).1 h)
+  thirteen (answered o it says a gives) h = absurd ((by-answer status old new (string_bytes o.out) rankers o it a gives).1 h)
+  thirteen (told order report own says tells gives) h =
+      absurd ((by-told status old new [] own report (own-small old rankers order report own tells) gives.ended).1 h)
   thirteen (proves cnf proof budget says d) h = (proven old new words status cnf proof budget says d).thirteen h
 
   -- ---- what is asked
 
   module _ (cnf proof : String Global) (budget : ℕ) (bytes : List ℕ) (asked : AsksToProve old words cnf proof budget bytes) where
     -- words that ask to prove give no other order
-    no-stop : (order : Order) (why : Stop) (mid : Seen) → Says words (Ok order) → Stops old mid titles order why → ⊥
+    no-stop : (order : Order) (why : Stop) (mid : Seen) → Says words (Ok order) → Stops old mid rankers order why → ⊥
     no-stop (Repair o) why mid says stops = one_order words (Repair o) (Prove cnf proof budget) says asked.says
     no-stop (Check a b c d) why mid says stops = one_order words (Check a b c d) (Prove cnf proof budget) says asked.says
     no-stop (Run a b n) why mid says stops = one_order words (Run a b n) (Prove cnf proof budget) says asked.says
@@ -97,39 +109,40 @@ module _ (old new : Seen) (titles words : List (List ℕ)) (status : ℕ) where
         (model : (f : Formula) → formula_of bytes ≡ Ok f → HasModel f.clauses → status ≡ 1 → Goal)
         (none : (f : Formula) → formula_of bytes ≡ Ok f → (HasModel f.clauses → ⊥) → status ≡ 0 → Goal)
         (fault : (at : ℕ) → formula_of bytes ≡ Err at → status ≡ 13 → Goal) where
-      ends : Does old new titles words status → Goal ⊎ IsUndecided old new cnf proof status
+      ends : Does old new rankers words status → Goal ⊎ IsUndecided old new cnf proof status
       ends (memory e same less) = inr (wants_memory e)
       ends (refused why m says e f) = absurd (m (orders_have_no_fault words (Prove cnf proof budget) why asked.says says))
       ends (stopped order why mid says stops same less e f) = absurd (no-stop order why mid says stops)
       ends (answered o it says a gives) = absurd (one_order words (Repair o) (Prove cnf proof budget) says asked.says)
+      ends (told order report own says tells gives) = absurd (no-proof old rankers words order report own says cnf proof budget asked.says tells)
       ends (proves a b n says d) = asked-ends old new words status cnf proof budget bytes asked Goal model none fault (that-order a b n says d)
 
-    ends-none : (f : Formula) → formula_of bytes ≡ Ok f → (HasModel f.clauses → ⊥) → Does old new titles words status → (status ≡ 0) ⊎ IsUndecided old new cnf proof status
+    ends-none : (f : Formula) → formula_of bytes ≡ Ok f → (HasModel f.clauses → ⊥) → Does old new rankers words status → (status ≡ 0) ⊎ IsUndecided old new cnf proof status
     ends-none f said free does = ends (status ≡ 0)
         (λ g is has e. absurd (free (subst (λ (x : Formula). HasModel x.clauses) (same-formula (formula_of bytes) g f is said) has)))
         (λ g is lacks e. e)
         (λ at is e. absurd (no-fault (formula_of bytes) f at said is))
         does
 
-    ends-some : (f : Formula) → formula_of bytes ≡ Ok f → HasModel f.clauses → Does old new titles words status → (status ≡ 1) ⊎ IsUndecided old new cnf proof status
+    ends-some : (f : Formula) → formula_of bytes ≡ Ok f → HasModel f.clauses → Does old new rankers words status → (status ≡ 1) ⊎ IsUndecided old new cnf proof status
     ends-some f said has does = ends (status ≡ 1)
         (λ g is there e. e)
         (λ g is lacks e. absurd (lacks (subst (λ (x : Formula). HasModel x.clauses) (same-formula (formula_of bytes) f g said is) has)))
         (λ at is e. absurd (no-fault (formula_of bytes) f at said is))
         does
 
-    ends-refused : (at : ℕ) → formula_of bytes ≡ Err at → Does old new titles words status → (status ≡ 13) ⊎ IsUndecided old new cnf proof status
+    ends-refused : (at : ℕ) → formula_of bytes ≡ Err at → Does old new rankers words status → (status ≡ 13) ⊎ IsUndecided old new cnf proof status
     ends-refused at said does = ends (status ≡ 13)
         (λ g is there e. absurd (no-fault (formula_of bytes) g at is said))
         (λ g is lacks e. absurd (no-fault (formula_of bytes) g at is said))
         (λ place is e. e)
         does
 
-pub proving : (old new : Seen) (titles words : List (List ℕ)) (status : ℕ) → Does old new titles words status → Proving old new words status
-proving old new titles words status does = record {
-  nine = nine old new titles words status does;
-  thirteen = thirteen old new titles words status does;
-  none = λ cnf proof budget bytes f asked said free. ends-none old new titles words status cnf proof budget bytes asked f said free does;
-  some = λ cnf proof budget bytes f asked said has. ends-some old new titles words status cnf proof budget bytes asked f said has does;
-  refused = λ cnf proof budget bytes at asked said. ends-refused old new titles words status cnf proof budget bytes asked at said does;
+pub proving : (old new : Seen) (rankers : List Handed) (words : List (List ℕ)) (status : ℕ) → Does old new rankers words status → Proving old new words status
+proving old new rankers words status does = record {
+  nine = nine old new rankers words status does;
+  thirteen = thirteen old new rankers words status does;
+  none = λ cnf proof budget bytes f asked said free. ends-none old new rankers words status cnf proof budget bytes asked f said free does;
+  some = λ cnf proof budget bytes f asked said has. ends-some old new rankers words status cnf proof budget bytes asked f said has does;
+  refused = λ cnf proof budget bytes at asked said. ends-refused old new rankers words status cnf proof budget bytes asked at said does;
 }

@@ -1,6 +1,6 @@
 -- How an order to prove ends, step by step, and what its statuses say.
-use Rattle.std.proofs.Common.{◌≡◌, ◌≢◌, ◌∙◌, ◌≤◌, ◌<◌, ◌+◌, ◌-◌, ◌^◌, ℕ, Bool, List, length, inl, inr, min, sym, ap, subst, string_bytes, String, Global, Some, None, arith}
-use Rattle.std.specs.Prelude.{◌⊎◌, Option, Result, Ok, Err}
+use Rattle.std.proofs.Common.{◌≡◌, ◌≢◌, ◌∙◌, ◌≤◌, ◌<◌, ℕ, List, length, inl, inr, sym, ap, subst, string_bytes, String, Global, Some, None, arith}
+use Rattle.std.specs.Prelude.{◌⊎◌, Option, Ok, Err}
 use Rattle.ax_dimacs.specs.Clauses.{Formula, formula_of}
 use Rattle.ax_prove.specs.declared.outcome.Outcome.{Outcome}
 use Rattle.ax_prove.specs.declared.outcome.Outcome.TheVariants as outcome
@@ -12,7 +12,7 @@ use Rattle.ax_words.specs.declared.order.Order.TheVariants.{Prove}
 use Rattle.ax_words.specs.Words.{Says}
 use Rattle.ax_top.specs.declared.proving.Halt.{Halt}
 use Rattle.ax_top.specs.declared.proving.Halt.TheVariants as halt
-use Rattle.ax_top.specs.Delivery.{Delivers, Delivery, Reports, print_failed, put_failed, whole}
+use Rattle.ax_top.specs.Delivery.{Delivery, print_failed, put_failed, whole}
 use Rattle.ax_top.specs.Proving.{AsksToProve, CnfEnds, CnfRead, DoesProve, FoundModel, GaveLessOfProof, GivesLines, GivesOutcome, IsCnfLong, IsSaid, IsUndecided, RanOut, RefusedCnf, Refuses, WroteProof, cnf_limit, fails_to_give, fails_to_read, given, halt_report, halt_status, halted, memory, spends_budget, wants_memory}
 use Rattle.ax_top.specs.Reports.{Finishes}
 use Rattle.ax_top.proofs.Giving.{delivers-after, reports-after}

@@ -6,6 +6,7 @@ use Rattle.ax_prog.specs.declared.Program.{Program}
 use Rattle.ax_prog.specs.declared.Sets.{Sets}
 use Rattle.ax_prog.specs.declared.SlotId.{SlotId}
 use Rattle.ax_prog.specs.declared.Suite.{Suite}
+use Rattle.ax_prog.specs.declared.Test.{Test}
 use Rattle.ax_prog.specs.Candidates.{candidates_of}
 use Rattle.ax_front.specs.Texts.{IsProgramOfText, KeepsLimits}
 use Rattle.ax_front.specs.declared.SourceFault.{SourceFault}
@@ -13,23 +14,32 @@ use Rattle.ax_front.specs.declared.SourceFault.TheVariants as front
 use Rattle.ax_suite.specs.Suites.{Reads}
 use Rattle.ax_suite.proofs.Single.{suites_have_no_fault}
 use Rattle.ax_outside.specs.Seen.{NoLess, OnKept, Rose, Seen, Told}
-use Rattle.ax_words.specs.Laws.{SameRepair}
+use Rattle.ax_coverage.specs.Handed.{Handed, ranker_at, ranker_named}
+use Rattle.ax_coverage.specs.Orders.{OneCandidateOrder}
+use Rattle.ax_words.specs.Laws.{SameChoice, SameRepair}
 use Rattle.ax_words.specs.declared.order.Choice.{Choice}
 use Rattle.ax_words.specs.declared.order.Choice.TheVariants.{Pick, Top}
 use Rattle.ax_words.specs.declared.order.RepairOrder.{RepairOrder}
 use Rattle.ax_top.specs.declared.files.File.TheVariants as file
 use Rattle.ax_top.specs.declared.files.Stop.{Stop}
 use Rattle.ax_top.specs.declared.files.Stop.TheVariants as stop
-use Rattle.ax_top.specs.Built.{are_comparisons, candidate_at, only, small_slot}
+use Rattle.ax_top.specs.Built.{are_comparisons, candidate_at, chosen_of, only, small_slot}
+use Rattle.ax_top.specs.Choices.{IsChoice}
 use Rattle.ax_top.specs.Complete.{IsAsked, IsCutOff, fails_to_read, wants_memory}
 use Rattle.ax_top.specs.Files.{IsLong, limit_of}
 use Rattle.ax_top.specs.Judging.{HasFault, Refuses, StopsAtFiles, StopsAtSource, StopsAtTests, at_source, at_tests}
 use Rattle.ax_top.specs.Orders.{LacksRanker, PicksJudged, RepairRefused, at_files, at_picks, at_ranker, candidate_count, first_beyond, numbers_of}
 use Rattle.ax_top.specs.Repairs.{RepairStops, memory, refused, unbuilt}
 use Rattle.ax_top.specs.Reports.{stop_status}
-use Rattle.ax_top.proofs.Asked.{built-there, chosen-by, same-numbers, same-program, source-told, tests-told}
+use Rattle.ax_top.proofs.Asked.{chosen-there, same-program, same-tests, source-told, tests-told}
 
 -- ---- picked numbers
+
+same-picks : (a b : Choice) → SameChoice a b → numbers_of a ≡ numbers_of b
+same-picks (Top count formula) (Top number name) h = refl
+same-picks (Top count formula) (Pick others) h = absurd h
+same-picks (Pick numbers) (Top number name) h = absurd h
+same-picks (Pick numbers) (Pick others) h = h
 
 has-candidate : (program : Program) (found : Option SlotId) (chosen : List SlotId)
     → option_map (λ (id : SlotId). id ∷ []) (option_and_then (small_slot program) found) ≡ Some chosen → (id : SlotId) × (found ≡ Some id)
@@ -50,7 +60,7 @@ by-sets program true (n ∷ []) chosen h =
     let found = has-candidate program (candidate_at program n) chosen h in
     (n, refl, found.0, found.1)
 
-picks-one : (program : Program) (sets : Sets) (numbers : List ℕ) (chosen : List SlotId) → chosen-by program sets numbers ≡ Some chosen → PicksOne program numbers
+picks-one : (program : Program) (sets : Sets) (numbers : List ℕ) (chosen : List SlotId) → chosen_of program sets numbers ≡ Some chosen → PicksOne program numbers
 picks-one program sets numbers chosen h = by-sets program (are_comparisons sets) numbers chosen h
 
 not-beyond : (count n : ℕ) → n - 1 < count → nat_lt count n ≡ false
@@ -61,9 +71,20 @@ none-beyond program numbers one =
     let within : one.0 - 1 < candidate_count program = slice_get_within (candidates_of program) (one.0 - 1) one.2 one.3 in
     rw (one.1, not-beyond (candidate_count program) one.0 within) refl
 
-has-ranker : (titles : List (List ℕ)) (choice : Choice) (n : ℕ) → numbers_of choice ≡ n ∷ [] → LacksRanker titles choice → ⊥
-has-ranker titles (Top count formula) n e h = absurd (cc)
-has-ranker titles (Pick numbers) n e h = h
+-- none of the picked numbers, where some are picked
+none-picked : (rankers : List Handed) (program : Program) (tests : List Test) (steps : ℕ) (choice : Choice) (numbers : List ℕ)
+    → IsChoice rankers program tests steps choice numbers → PicksOne program numbers → first_beyond (candidate_count program) (numbers_of choice) ≡ None
+none-picked rankers program tests steps (Top count formula) numbers is one = refl
+none-picked rankers program tests steps (Pick picked) numbers is one = rw (sym is) (none-beyond program numbers one)
+
+has-ranker : (rankers : List Handed) (program : Program) (tests : List Test) (steps : ℕ) (a b : Choice) (numbers : List ℕ) → SameChoice a b
+    → IsChoice rankers program tests steps b numbers → LacksRanker rankers a → ⊥
+has-ranker rankers program tests steps (Pick picked) b numbers same is lacks = lacks
+has-ranker rankers program tests steps (Top count formula) (Pick picked) numbers same is lacks = same
+has-ranker rankers program tests steps (Top count formula) (Top number name) numbers same is lacks =
+    let gone : ranker_at rankers (string_bytes name) ≡ None = ap (λ (n : List ℕ). ranker_at rankers n) (sym same.1) ∙ lacks in
+    let none : ranker_named rankers (string_bytes name) ≡ None = rw gone refl in
+    none-some is.0 (sym none ∙ is.1)
 
 -- ---- faults
 
@@ -78,16 +99,16 @@ not-long n most short long = omega arith
 
 -- ---- stops
 
-module _ (old new : Seen) (words : List (List ℕ)) (o : RepairOrder) (program : Program) (suite : Suite) (chosen : List SlotId)
-    (asked : IsAsked old words o program suite chosen) (it : RepairOrder) (same : SameRepair it o) where
+module _ (law : OneCandidateOrder) (old new : Seen) (rankers : List Handed) (words : List (List ℕ)) (o : RepairOrder) (program : Program) (suite : Suite) (chosen : List SlotId)
+    (asked : IsAsked old rankers words o program suite chosen) (it : RepairOrder) (same : SameRepair it o) where
   abbrev CutOff : Stop → Type 0
   CutOff why = IsCutOff old new o (stop_status why)
 
   told-source : old.kept (string_bytes it.source) ≡ Some (Some asked.source)
-  told-source = source-told old words o program suite chosen asked it same
+  told-source = source-told law old rankers words o program suite chosen asked it same
 
   told-tests : old.kept (string_bytes it.tests) ≡ Some (Some asked.tests)
-  told-tests = tests-told old words o program suite chosen asked it same
+  told-tests = tests-told law old rankers words o program suite chosen asked it same
 
   by-source : (why : Stop) → StopsAtSource old new (string_bytes it.source) why → CutOff why
   by-source stop.Memory h = wants_memory refl
@@ -129,14 +150,16 @@ module _ (old new : Seen) (words : List (List ℕ)) (o : RepairOrder) (program :
   by-files why (at_source h) = by-source why h
   by-files why (at_tests fine h) = by-tests why h
 
-  picks-here : PicksOne program (numbers_of o.choice)
-  picks-here = picks-one program o.sets (numbers_of o.choice) chosen asked.built
+  picks-here : PicksOne program asked.numbers
+  picks-here = picks-one program o.sets asked.numbers chosen asked.is_chosen.built
+
+  none-here : first_beyond (candidate_count program) (numbers_of o.choice) ≡ None
+  none-here = none-picked rankers program suite.tests o.bounds.steps o.choice asked.numbers asked.is_chosen.choice picks-here
 
   by-picks : (why : Stop) → PicksJudged (numbers_of o.choice) program (Err why) → CutOff why
   by-picks stop.Memory h = wants_memory refl
   by-picks (stop.NoCandidate picked count) h =
-      absurd (none-some picked (sym (none-beyond program (numbers_of o.choice) picks-here)
-      ∙ sym (ap (λ (n : ℕ). first_beyond n (numbers_of o.choice)) h.0) ∙ h.1))
+      absurd (none-some picked (sym none-here ∙ sym (ap (λ (n : ℕ). first_beyond n (numbers_of o.choice)) h.0) ∙ h.1))
   by-picks stop.NoRanker h = absurd h
   by-picks (stop.ReadFailed which) h = absurd h
   by-picks (stop.TooLong which) h = absurd h
@@ -149,21 +172,22 @@ module _ (old new : Seen) (words : List (List ℕ)) (o : RepairOrder) (program :
   moved-picks p numbers why e n h =
       subst (λ (ns : List ℕ). PicksJudged ns program (Err why)) n (subst (λ (x : Program). PicksJudged numbers x (Err why)) e h)
 
-  by-refusal : (titles : List (List ℕ)) (why : Stop) → RepairRefused old new titles it why → CutOff why
-  by-refusal titles why (at_ranker lacks e) =
-      absurd (has-ranker titles it.choice picks-here.0 (same-numbers it.choice o.choice same.choice ∙ picks-here.1) lacks)
-  by-refusal titles why (at_files has h) = by-files why h
-  by-refusal titles why (at_picks has bytes p s fine h) =
-      by-picks why (moved-picks p (numbers_of it.choice) why (same-program old words o program suite chosen asked it same bytes p fine.spelled)
-      (same-numbers it.choice o.choice same.choice) h)
+  by-refusal : (why : Stop) → RepairRefused old new rankers it why → CutOff why
+  by-refusal why (at_ranker lacks e) =
+      absurd (has-ranker rankers program suite.tests o.bounds.steps it.choice o.choice asked.numbers same.choice asked.is_chosen.choice lacks)
+  by-refusal why (at_files has h) = by-files why h
+  by-refusal why (at_picks has bytes p s fine h) =
+      by-picks why (moved-picks p (numbers_of it.choice) why (same-program law old rankers words o program suite chosen asked it same bytes p fine.spelled)
+      (same-picks it.choice o.choice same.choice) h)
 
-  pub cut-off : (titles : List (List ℕ)) (why : Stop) → RepairStops old new titles it why → CutOff why
-  cut-off titles why (refused h) = by-refusal titles why h
-  cut-off titles why (unbuilt bytes p s fine none e) =
-      let there = built-there old words o program suite chosen asked it same p
-      (same-program old words o program suite chosen asked it same bytes p fine.files.spelled) in
-      absurd (none-some chosen (sym none ∙ there))
-  cut-off titles why (memory e) = wants_memory (ap stop_status e)
+  pub cut-off : (why : Stop) → RepairStops old new rankers it why → CutOff why
+  cut-off why (refused h) = by-refusal why h
+  cut-off why (unbuilt bytes p s fine un e) =
+      let program-is = same-program law old rankers words o program suite chosen asked it same bytes p fine.files.spelled in
+      let tests-are = same-tests law old rankers words o program suite chosen asked it same s fine.files.tested in
+      let there = chosen-there law old rankers words o program suite chosen asked it same p s.tests un.numbers program-is tests-are un.choice in
+      absurd (none-some chosen (sym un.none ∙ there))
+  cut-off why (memory e) = wants_memory (ap stop_status e)
 
 -- ---- after more calls
 

@@ -1,5 +1,5 @@
 -- Which orders to repair are built, and the expressions that they choose.
-use Rattle.std.specs.Prelude.{◌≡◌, ℕ, ◌+◌, ◌-◌, nat_le, nat_lt, length, Bool, true, false, ◌&&◌, not, if◌then◌else◌, List, [], ◌∷◌, Option, None, Some, option_map, option_and_then, slice_get}
+use Rattle.std.specs.Prelude.{◌≡◌, ℕ, ◌+◌, ◌-◌, nat_le, nat_lt, length, Bool, false, ◌&&◌, not, if◌then◌else◌, List, [], ◌∷◌, Option, None, Some, option_map, option_and_then, slice_get}
 use Rattle.ax_prog.specs.declared.Expr.{Expr, Num, Atom', Un', Bin', Cond'}
 use Rattle.ax_prog.specs.declared.Atom.TheBlock.{more_of-Expr, end_of-Expr}
 use Rattle.ax_prog.specs.declared.Sets.{Sets}
@@ -9,7 +9,6 @@ use Rattle.ax_prog.specs.Candidates.{candidates_of, tree_at}
 use Rattle.ax_words.specs.declared.order.RepairOrder.{RepairOrder}
 use Rattle.ax_space.specs.Chosen.{Chosen, space_of}
 use Rattle.ax_top.specs.declared.built.Picked.{Picked}
-use Rattle.ax_top.specs.Orders.{numbers_of}
 
 -- how many binary operators a tree has
 abbrev pub binaries : Expr → ℕ
@@ -46,22 +45,22 @@ abbrev pub are_comparisons : Sets → Bool
 are_comparisons s =
     s.cmp && (not s.logic && (not s.arith && (not s.mul && (not s.bits && (not s.vars && (not s.consts && not s.guard))))))
 
--- The slot that is to be changed, where the order is built: it takes the comparisons alone and picks one number, that of
--- a candidate that isn't the last slot's and has at most three binary operators. Of any other order there is none.
-abbrev pub built_slot : Program → RepairOrder → Option SlotId
-built_slot program o =
-    if are_comparisons o.sets
-    then option_and_then (λ number. option_and_then (small_slot program) (candidate_at program number)) (only (numbers_of o.choice))
+-- The slot that is to be changed, where an order is built that takes these sets and chooses these numbers: it takes the
+-- comparisons alone and chooses one number, that of a candidate that isn't the last slot's and has at most three binary
+-- operators. Of any other order there is none.
+abbrev pub built_slot : Program → Sets → List ℕ → Option SlotId
+built_slot program sets numbers =
+    if are_comparisons sets
+    then option_and_then (λ number. option_and_then (small_slot program) (candidate_at program number)) (only numbers)
     else None
 
 -- the chosen expressions of an order that is built
-abbrev pub chosen_of : Program → RepairOrder → Option (List SlotId)
-chosen_of program o = option_map (λ id. id ∷ []) (built_slot program o)
+abbrev pub chosen_of : Program → Sets → List ℕ → Option (List SlotId)
+chosen_of program sets numbers = option_map (λ id. id ∷ []) (built_slot program sets numbers)
 
--- an order that is built: its one number, and the slot that this picks
-pub record IsPicked (program : Program) (o : RepairOrder) (picked : Picked) : Type 0 where
-  pub number : numbers_of o.choice ≡ picked.number ∷ []
-  pub slot : built_slot program o ≡ Some picked.slot
+-- an order that is built: its one number, and the slot that this chooses
+abbrev pub IsPicked : Program → Sets → Picked → Type 0
+IsPicked program sets picked = built_slot program sets (picked.number ∷ []) ≡ Some picked.slot
 
 -- the patches among which a repair is sought
 abbrev pub space_for : Program → RepairOrder → List SlotId → Chosen

@@ -1,6 +1,7 @@
 -- Each status, with its cause. There is no other status.
 use Rattle.std.specs.Prelude.{◌≡◌, ◌≢◌, ◌⊎◌, ℕ, List, Ok, Err, String, string_bytes}
 use Rattle.std.specs.Global.{Global}
+use Rattle.ax_coverage.specs.Handed.{Handed}
 use Rattle.ax_outside.specs.Seen.{NoLess, Same, Seen}
 use Rattle.ax_words.specs.declared.order.Order.{Order}
 use Rattle.ax_words.specs.declared.order.Order.TheVariants.{Prove, Repair}
@@ -10,25 +11,29 @@ use Rattle.ax_words.specs.declared.order.WordFault.TheVariants.{Memory}
 use Rattle.ax_words.specs.Words.{Says}
 use Rattle.ax_top.specs.declared.answer.Answer.{Answer}
 use Rattle.ax_top.specs.declared.files.Stop.{Stop}
-use Rattle.ax_top.specs.Delivery.{Gives}
+use Rattle.ax_top.specs.Delivery.{Gives, Reports}
 use Rattle.ax_top.specs.Ends.{Stops}
 use Rattle.ax_top.specs.Proving.{DoesProve}
 use Rattle.ax_top.specs.Repairs.{Answers}
+use Rattle.ax_top.specs.Telling.{Tells}
 use Rattle.ax_top.specs.Reports.{Finishes, stop_report, stop_status, words_report}
 
--- What the program does, over rankers of these names: want of memory, after which nothing is printed; or the words are refused,
+-- What the program does, over these rankers: want of memory, after which nothing is printed; or the words are refused,
 -- and the report says why; or they are an order, which something stops, and the report says what; or they are an order to
--- repair, and its answer is given; or they are an order to prove, which is done.
-pub data Does (old new : Seen) (titles words : List (List ℕ)) (status : ℕ) : Type 0 where
-  memory : status ≡ 10 → Same old new → NoLess old new → Does old new titles words status
+-- repair, and its answer is given; or they are an order to run or to rank, and its report is printed; or they are an order to
+-- prove, which is done.
+pub data Does (old new : Seen) (rankers : List Handed) (words : List (List ℕ)) (status : ℕ) : Type 0 where
+  memory : status ≡ 10 → Same old new → NoLess old new → Does old new rankers words status
   refused : (fault : WordFault) → fault ≢ Memory → Says words (Err fault) → status ≡ 2 → Finishes old new (words_report fault)
-      → Does old new titles words status
-  stopped : (order : Order) (why : Stop) (mid : Seen) → Says words (Ok order) → Stops old mid titles order why → Same old mid → NoLess old mid
-      → status ≡ stop_status why → Finishes mid new (stop_report order why) → Does old new titles words status
-  answered : (o : RepairOrder) (answer : Answer) → Says words (Ok (Repair o)) → Answers old titles o answer
-      → Gives old new (string_bytes o.out) answer status → Does old new titles words status
+      → Does old new rankers words status
+  stopped : (order : Order) (why : Stop) (mid : Seen) → Says words (Ok order) → Stops old mid rankers order why → Same old mid → NoLess old mid
+      → status ≡ stop_status why → Finishes mid new (stop_report order why) → Does old new rankers words status
+  answered : (o : RepairOrder) (answer : Answer) → Says words (Ok (Repair o)) → Answers old rankers o answer
+      → Gives old new (string_bytes o.out) answer status → Does old new rankers words status
+  told : (order : Order) (report : List ℕ) (own : ℕ) → Says words (Ok order) → Tells old rankers order report own
+      → Reports old new report own status → Does old new rankers words status
   proves : (cnf proof : String Global) (budget : ℕ) → Says words (Ok (Prove cnf proof budget))
-      → DoesProve old new (string_bytes cnf) (string_bytes proof) budget status → Does old new titles words status
+      → DoesProve old new (string_bytes cnf) (string_bytes proof) budget status → Does old new rankers words status
 
 -- the name isn't that of the OUT, or of the PROOF, of the order
 pub record IsNotOut (words : List (List ℕ)) (f : List ℕ) : Type 0 where

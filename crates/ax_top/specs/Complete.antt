@@ -7,17 +7,19 @@ use Rattle.ax_space.specs.declared.Patch.{Patch}
 use Rattle.ax_least.specs.Least.{IsRepair, NoRepair}
 use Rattle.ax_front.specs.Texts.{IsProgramOfText, KeepsLimits}
 use Rattle.ax_suite.specs.Suites.{IsSuite}
+use Rattle.ax_coverage.specs.Handed.{Handed}
 use Rattle.ax_outside.specs.Seen.{Rose, Seen}
 use Rattle.ax_words.specs.declared.order.Order.TheVariants.{Repair}
 use Rattle.ax_words.specs.declared.order.RepairOrder.{RepairOrder}
 use Rattle.ax_words.specs.Words.{Says}
 use Rattle.ax_top.specs.declared.files.File.TheVariants as file
-use Rattle.ax_top.specs.Built.{chosen_of, space_for}
+use Rattle.ax_top.specs.Built.{space_for}
+use Rattle.ax_top.specs.Choices.{IsChosen}
 use Rattle.ax_top.specs.Files.{limit_of}
 
 -- The words are this order to repair. The shelf tells its two files: within the limits SOURCE spells this program, and
--- TESTS this suite. The order is built, and chooses these expressions.
-pub record IsAsked (old : Seen) (words : List (List ℕ)) (order : RepairOrder) (program : Program) (suite : Suite) (chosen : List SlotId) : Type 0 where
+-- TESTS this suite. The order is built, and chooses these expressions, by these rankers where it picks none.
+pub record IsAsked (old : Seen) (rankers : List Handed) (words : List (List ℕ)) (order : RepairOrder) (program : Program) (suite : Suite) (chosen : List SlotId) : Type 0 where
   pub source : List ℕ
   pub tests : List ℕ
   pub says : Says words (Ok (Repair order))
@@ -28,7 +30,8 @@ pub record IsAsked (old : Seen) (words : List (List ℕ)) (order : RepairOrder) 
   pub tests_told : old.kept (string_bytes order.tests) ≡ Some (Some tests)
   pub tests_short : length tests ≤ limit_of file.Tests
   pub tested : IsSuite tests suite.tests
-  pub built : chosen_of program order ≡ Some chosen
+  pub numbers : List ℕ
+  pub is_chosen : IsChosen rankers order program suite.tests numbers chosen
 
 -- memory was wanting, or a read of SOURCE or TESTS failed
 pub data IsCutOff (old new : Seen) (order : RepairOrder) (status : ℕ) : Type 0 where
@@ -53,10 +56,10 @@ pub data EndsUnrepaired (old new : Seen) (order : RepairOrder) (status : ℕ) : 
 
 -- Where some patch of the space is a repair, the status is 0, 6, 7 or 10; where none is, it is 1, 6, 7 or 10. So 1 comes
 -- exactly where no patch is a repair, when none of 6, 7 and 10 comes.
-pub record Complete (old new : Seen) (words : List (List ℕ)) (status : ℕ) : Type 0 where
+pub record Complete (old new : Seen) (rankers : List Handed) (words : List (List ℕ)) (status : ℕ) : Type 0 where
   pub some : (order : RepairOrder) (program : Program) (suite : Suite) (chosen : List SlotId) (patch : Patch)
-      → IsAsked old words order program suite chosen
+      → IsAsked old rankers words order program suite chosen
       → IsRepair program suite.tests order.bounds (space_for program order chosen) patch → EndsRepaired old new order status
   pub none : (order : RepairOrder) (program : Program) (suite : Suite) (chosen : List SlotId)
-      → IsAsked old words order program suite chosen
+      → IsAsked old rankers words order program suite chosen
       → NoRepair program suite.tests order.bounds (space_for program order chosen) → EndsUnrepaired old new order status

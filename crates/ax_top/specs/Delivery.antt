@@ -34,7 +34,8 @@ pub record Delivers (old new : Seen) (out text report : List ℕ) (own status : 
   pub others : (f : List ℕ) → f ≢ out → new.kept f ≡ old.kept f
   pub counts : NoLess old new
 
--- a repaired source is put before its report is printed; without a repair only the report is
+-- a repaired source is put before its report is printed; without a repair only the report is, and so it is of other orders
 abbrev pub Gives : Seen → Seen → List ℕ → Answer → ℕ → Type 0
 Gives old new out (answer.Repaired text report) status = Delivers old new out text report 0 status
 Gives old new out answer.NoRepair status = Reports old new no_repair_report 1 status
+Gives old new out (answer.Reported told) status = Reports old new told.report told.status status

@@ -2,6 +2,8 @@ pub mod Files
 pub mod Judging
 pub mod Orders
 pub mod Built
+pub mod Choices
+pub mod Telling
 pub mod Repairs
 pub mod Ends
 pub mod Delivery

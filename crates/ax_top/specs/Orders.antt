@@ -1,15 +1,13 @@
 -- What stops an order, command by command: each row stands behind those before it.
-use Rattle.std.specs.Prelude.{◌≡◌, nat_lt, ℕ, List, [], length, Option, None, Some, IsSome, position, Result, Ok, Err, string_bytes}
+use Rattle.std.specs.Prelude.{◌≡◌, nat_lt, ℕ, List, [], length, Option, None, Some, IsSome, Result, Ok, Err, string_bytes}
 use Rattle.std.specs.List.{find}
-use Rattle.std.specs.Str.{bytes_eq}
 use Rattle.ax_prog.specs.declared.Program.{Program}
 use Rattle.ax_prog.specs.declared.Suite.{Suite}
 use Rattle.ax_prog.specs.Candidates.{candidates_of}
+use Rattle.ax_coverage.specs.Handed.{Handed, ranker_at}
 use Rattle.ax_outside.specs.Seen.{Seen}
 use Rattle.ax_words.specs.declared.order.Choice.{Choice}
 use Rattle.ax_words.specs.declared.order.Choice.TheVariants.{Pick, Top}
-use Rattle.ax_words.specs.declared.order.Order.{Order}
-use Rattle.ax_words.specs.declared.order.Order.TheVariants.{Check, Gen, Rank, Repair, Run}
 use Rattle.ax_words.specs.declared.order.RepairOrder.{RepairOrder}
 use Rattle.ax_top.specs.declared.files.File.TheVariants.{Cert}
 use Rattle.ax_top.specs.declared.files.Stop.{Stop}
@@ -20,28 +18,24 @@ use Rattle.ax_top.specs.Judging.{FilesAreFine, StopsAtFiles}
 
 -- ---- rankers, by their names
 
--- the place of the first ranker of that name
-abbrev pub ranker_at : List (List ℕ) → List ℕ → Option ℕ
-ranker_at titles name = position (λ title. bytes_eq title name) titles
-
-abbrev pub RankerJudged : List (List ℕ) → List ℕ → Result ℕ Stop → Type 0
-RankerJudged titles name (Ok place) = ranker_at titles name ≡ Some place
-RankerJudged titles name (Err NoRanker) = ranker_at titles name ≡ None
-RankerJudged titles name (Err other) = ⊥
+abbrev pub RankerJudged : List Handed → List ℕ → Result ℕ Stop → Type 0
+RankerJudged rankers name (Ok place) = ranker_at rankers name ≡ Some place
+RankerJudged rankers name (Err NoRanker) = ranker_at rankers name ≡ None
+RankerJudged rankers name (Err other) = ⊥
 
 -- a choice by a formula needs its ranker
-abbrev pub HasRanker : List (List ℕ) → Choice → Type 0
-HasRanker titles (Top count formula) = IsSome (ranker_at titles (string_bytes formula))
-HasRanker titles (Pick numbers) = Unit {0}
+abbrev pub HasRanker : List Handed → Choice → Type 0
+HasRanker rankers (Top count formula) = IsSome (ranker_at rankers (string_bytes formula))
+HasRanker rankers (Pick numbers) = Unit {0}
 
-abbrev pub LacksRanker : List (List ℕ) → Choice → Type 0
-LacksRanker titles (Top count formula) = ranker_at titles (string_bytes formula) ≡ None
-LacksRanker titles (Pick numbers) = ⊥
+abbrev pub LacksRanker : List Handed → Choice → Type 0
+LacksRanker rankers (Top count formula) = ranker_at rankers (string_bytes formula) ≡ None
+LacksRanker rankers (Pick numbers) = ⊥
 
-abbrev pub ChoiceJudged : List (List ℕ) → Choice → Result (Unit {0}) Stop → Type 0
-ChoiceJudged titles choice (Ok done) = HasRanker titles choice
-ChoiceJudged titles choice (Err NoRanker) = LacksRanker titles choice
-ChoiceJudged titles choice (Err other) = ⊥
+abbrev pub ChoiceJudged : List Handed → Choice → Result (Unit {0}) Stop → Type 0
+ChoiceJudged rankers choice (Ok done) = HasRanker rankers choice
+ChoiceJudged rankers choice (Err NoRanker) = LacksRanker rankers choice
+ChoiceJudged rankers choice (Err other) = ⊥
 
 -- ---- picked numbers
 
@@ -65,16 +59,15 @@ PicksJudged numbers program (Err other) = ⊥
 
 -- ---- commands
 
--- `run`: its files; and the rest isn't built
+-- `run`: its files; or memory is wanting
 pub data RunStops (old new : Seen) (source tests : List ℕ) (why : Stop) : Type 0 where
   at_files : StopsAtFiles old new source tests why → RunStops old new source tests why
-  unbuilt : (bytes : List ℕ) (program : Program) (suite : Suite) → FilesAreFine old source tests bytes program suite
-      → why ≡ NotBuilt → RunStops old new source tests why
+  memory : why ≡ Memory → RunStops old new source tests why
 
 -- `rank`: the ranker; then as `run`
-pub data RankStops (old new : Seen) (titles : List (List ℕ)) (source tests formula : List ℕ) (why : Stop) : Type 0 where
-  at_ranker : ranker_at titles formula ≡ None → why ≡ NoRanker → RankStops old new titles source tests formula why
-  behind : IsSome (ranker_at titles formula) → RunStops old new source tests why → RankStops old new titles source tests formula why
+pub data RankStops (old new : Seen) (rankers : List Handed) (source tests formula : List ℕ) (why : Stop) : Type 0 where
+  at_ranker : ranker_at rankers formula ≡ None → why ≡ NoRanker → RankStops old new rankers source tests formula why
+  behind : IsSome (ranker_at rankers formula) → RunStops old new source tests why → RankStops old new rankers source tests formula why
 
 -- `check`: its files; its certificate; and what that says isn't read yet
 pub data CheckStops (old new : Seen) (source tests cert : List ℕ) (why : Stop) : Type 0 where
@@ -85,19 +78,19 @@ pub data CheckStops (old new : Seen) (source tests cert : List ℕ) (why : Stop)
       → (text : List ℕ) → WasRead (old.kept cert) Cert text → why ≡ NotBuilt → CheckStops old new source tests cert why
 
 -- nothing is wrong with the order to repair: it has its ranker, its files are fine, and the picked numbers are candidates
-pub record RepairIsFine (old : Seen) (titles : List (List ℕ)) (o : RepairOrder) (bytes : List ℕ) (program : Program) (suite : Suite) : Type 0 where
-  pub ranker : HasRanker titles o.choice
+pub record RepairIsFine (old : Seen) (rankers : List Handed) (o : RepairOrder) (bytes : List ℕ) (program : Program) (suite : Suite) : Type 0 where
+  pub ranker : HasRanker rankers o.choice
   pub files : FilesAreFine old (string_bytes o.source) (string_bytes o.tests) bytes program suite
   pub picks : first_beyond (candidate_count program) (numbers_of o.choice) ≡ None
 
 -- what refuses it: the ranker; the files; the picked numbers
-pub data RepairRefused (old new : Seen) (titles : List (List ℕ)) (o : RepairOrder) (why : Stop) : Type 0 where
-  at_ranker : LacksRanker titles o.choice → why ≡ NoRanker → RepairRefused old new titles o why
-  at_files : HasRanker titles o.choice → StopsAtFiles old new (string_bytes o.source) (string_bytes o.tests) why → RepairRefused old new titles o why
-  at_picks : HasRanker titles o.choice → (bytes : List ℕ) (program : Program) (suite : Suite)
+pub data RepairRefused (old new : Seen) (rankers : List Handed) (o : RepairOrder) (why : Stop) : Type 0 where
+  at_ranker : LacksRanker rankers o.choice → why ≡ NoRanker → RepairRefused old new rankers o why
+  at_files : HasRanker rankers o.choice → StopsAtFiles old new (string_bytes o.source) (string_bytes o.tests) why → RepairRefused old new rankers o why
+  at_picks : HasRanker rankers o.choice → (bytes : List ℕ) (program : Program) (suite : Suite)
       → FilesAreFine old (string_bytes o.source) (string_bytes o.tests) bytes program suite
-      → PicksJudged (numbers_of o.choice) program (Err why) → RepairRefused old new titles o why
+      → PicksJudged (numbers_of o.choice) program (Err why) → RepairRefused old new rankers o why
 
-abbrev pub RepairJudged : Seen → Seen → List (List ℕ) → RepairOrder → Result Judged Stop → Type 0
-RepairJudged old new titles o (Ok judged) = RepairIsFine old titles o judged.source.bytes.items judged.source.program judged.suite
-RepairJudged old new titles o (Err why) = RepairRefused old new titles o why
+abbrev pub RepairJudged : Seen → Seen → List Handed → RepairOrder → Result Judged Stop → Type 0
+RepairJudged old new rankers o (Ok judged) = RepairIsFine old rankers o judged.source.bytes.items judged.source.program judged.suite
+RepairJudged old new rankers o (Err why) = RepairRefused old new rankers o why

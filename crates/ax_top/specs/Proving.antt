@@ -1,5 +1,5 @@
 -- What an order to prove comes to.
-use Rattle.std.specs.Prelude.{◌≡◌, ◌≢◌, ◌<◌, ◌≤◌, ◌++◌, ◌⊎◌, ℕ, Bool, List, [], length, codes, string_bytes, String, Option, None, Some, Result, Ok, Err}
+use Rattle.std.specs.Prelude.{◌≡◌, ◌<◌, ◌≤◌, ◌++◌, ◌⊎◌, ℕ, Bool, List, [], length, codes, string_bytes, String, Option, None, Some, Result, Ok, Err}
 use Rattle.std.specs.Fmt.{decimal}
 use Rattle.std.specs.Global.{Global}
 use Rattle.ax_proof.specs.Literal.{Literal}
@@ -7,7 +7,7 @@ use Rattle.ax_proof.specs.Lines.{IsProof}
 use Rattle.ax_sat.specs.Answer.{IsModel}
 use Rattle.ax_dimacs.specs.Clauses.{Formula, formula_of}
 use Rattle.ax_prove.specs.declared.outcome.Outcome.{Outcome}
-use Rattle.ax_prove.specs.Outcomes.{Decides, HasModel, Shows, ShowsLines, ShowsModel, ShowsProof, lines_of, report_of, status_of}
+use Rattle.ax_prove.specs.Outcomes.{Decides, HasModel, Shows, ShowsLines, lines_of, report_of, status_of}
 use Rattle.ax_prove.specs.Texts.{budget_report, model_report, proof_text, refuted_report}
 use Rattle.ax_outside.specs.Seen.{Adds, Holds, IsWhole, NoLess, OnKept, Rose, Same, Seen, Told}
 use Rattle.ax_words.specs.declared.order.Order.TheVariants.{Prove}

@@ -1,5 +1,5 @@
 -- What an order to repair comes to.
-use Rattle.std.specs.Prelude.{◌≡◌, ◌++◌, ℕ, if◌then◌else◌, List, [], ◌∷◌, Option, None, Some, Result, Ok, Err, codes, string_bytes}
+use Rattle.std.specs.Prelude.{◌≡◌, ◌++◌, ℕ, if◌then◌else◌, List, [], ◌∷◌, None, Some, Result, Ok, Err, codes}
 use Rattle.std.specs.Fmt.{decimal}
 use Rattle.ax_prog.specs.declared.Expr.{Expr}
 use Rattle.ax_prog.specs.declared.Program.{Program}
@@ -11,6 +11,7 @@ use Rattle.ax_space.specs.declared.Patch.{Patch}
 use Rattle.ax_least.specs.Least.{IsLeastRepair, NoRepair}
 use Rattle.ax_repair.specs.Written.{is_changed, written}
 use Rattle.ax_mended.specs.Reading.{PassesBack}
+use Rattle.ax_coverage.specs.Handed.{Handed}
 use Rattle.ax_outside.specs.Seen.{Seen}
 use Rattle.ax_words.specs.declared.order.RepairOrder.{RepairOrder}
 use Rattle.ax_top.specs.declared.answer.Answer.{Answer}
@@ -18,7 +19,8 @@ use Rattle.ax_top.specs.declared.answer.Answer.TheVariants as answer
 use Rattle.ax_top.specs.declared.files.Stop.{Stop}
 use Rattle.ax_top.specs.declared.files.Stop.TheVariants.{Memory, NotBuilt}
 use Rattle.ax_top.specs.Built.{chosen_of, space_for}
-use Rattle.ax_top.specs.Orders.{RepairIsFine, RepairRefused, numbers_of}
+use Rattle.ax_top.specs.Choices.{IsChosen, IsUnbuilt}
+use Rattle.ax_top.specs.Orders.{RepairIsFine, RepairRefused}
 
 -- ---- reports
 
@@ -52,48 +54,58 @@ repaired_report source program numbers ids trees cost = cost_line cost ++ change
 
 -- a least repair of the program, the source with its text, which reads back as a program that passes every test and at
 -- cost 0 is the source itself, and its report
-pub record IsMended (o : RepairOrder) (source : List ℕ) (program : Program) (tests : List Test) (chosen : List SlotId) (text report : List ℕ) : Type 0 where
+pub record IsMended (o : RepairOrder) (source : List ℕ) (program : Program) (tests : List Test) (numbers : List ℕ) (chosen : List SlotId) (text report : List ℕ) : Type 0 where
   pub patch : Patch
   pub cost : ℕ
   pub least : IsLeastRepair program tests o.bounds (space_for program o chosen) patch cost
   pub is_text : text ≡ written source program chosen patch.trees
   pub back : PassesBack source program tests o.bounds chosen patch
   pub unchanged : cost ≡ 0 → text ≡ source
-  pub is_report : report ≡ repaired_report source program (numbers_of o.choice) chosen patch.trees cost
+  pub is_report : report ≡ repaired_report source program numbers chosen patch.trees cost
 
-abbrev pub IsAnswer : RepairOrder → List ℕ → Program → List Test → List SlotId → Answer → Type 0
-IsAnswer o source program tests chosen (answer.Repaired text report) = IsMended o source program tests chosen text report
-IsAnswer o source program tests chosen answer.NoRepair = NoRepair program tests o.bounds (space_for program o chosen)
+abbrev pub IsAnswer : RepairOrder → List ℕ → Program → List Test → List ℕ → List SlotId → Answer → Type 0
+IsAnswer o source program tests numbers chosen (answer.Repaired text report) = IsMended o source program tests numbers chosen text report
+IsAnswer o source program tests numbers chosen answer.NoRepair = NoRepair program tests o.bounds (space_for program o chosen)
+IsAnswer o source program tests numbers chosen (answer.Reported told) = ⊥
+
+-- what the search says that takes these numbers as chosen: an answer, or that the order isn't built
+abbrev pub Answered : RepairOrder → List ℕ → Program → List Test → List ℕ → Result Answer Stop → Type 0
+Answered o source program tests numbers (Ok answer) =
+    (chosen : List SlotId) × (chosen_of program o.sets numbers ≡ Some chosen) × IsAnswer o source program tests numbers chosen answer
+Answered o source program tests numbers (Err Memory) = Unit {0}
+Answered o source program tests numbers (Err NotBuilt) = chosen_of program o.sets numbers ≡ None
+Answered o source program tests numbers (Err other) = ⊥
 
 -- what the search in a source says: an answer for the chosen expressions, or that the order isn't built
-abbrev pub Searched : RepairOrder → List ℕ → Program → List Test → Result Answer Stop → Type 0
-Searched o source program tests (Ok answer) =
-    (chosen : List SlotId) × (chosen_of program o ≡ Some chosen) × IsAnswer o source program tests chosen answer
-Searched o source program tests (Err Memory) = Unit {0}
-Searched o source program tests (Err NotBuilt) = chosen_of program o ≡ None
-Searched o source program tests (Err other) = ⊥
+abbrev pub Searched : List Handed → RepairOrder → List ℕ → Program → List Test → Result Answer Stop → Type 0
+Searched rankers o source program tests (Ok answer) =
+    (numbers : List ℕ) × (chosen : List SlotId) × IsChosen rankers o program tests numbers chosen × IsAnswer o source program tests numbers chosen answer
+Searched rankers o source program tests (Err Memory) = Unit {0}
+Searched rankers o source program tests (Err NotBuilt) = IsUnbuilt rankers o program tests
+Searched rankers o source program tests (Err other) = ⊥
 
 -- nothing is wrong with the order, it is built, and chooses these expressions of the program of this source
-pub record IsSought (old : Seen) (titles : List (List ℕ)) (o : RepairOrder) (source : List ℕ) (program : Program) (suite : Suite) (chosen : List SlotId) : Type 0 where
-  pub fine : RepairIsFine old titles o source program suite
-  pub built : chosen_of program o ≡ Some chosen
+pub record IsSought (old : Seen) (rankers : List Handed) (o : RepairOrder) (source : List ℕ) (program : Program) (suite : Suite) (numbers : List ℕ) (chosen : List SlotId) : Type 0 where
+  pub fine : RepairIsFine old rankers o source program suite
+  pub is_chosen : IsChosen rankers o program suite.tests numbers chosen
 
 -- the answer to an order, which is sought
-pub record Answers (old : Seen) (titles : List (List ℕ)) (o : RepairOrder) (answer : Answer) : Type 0 where
+pub record Answers (old : Seen) (rankers : List Handed) (o : RepairOrder) (answer : Answer) : Type 0 where
   pub source : List ℕ
   pub program : Program
   pub suite : Suite
+  pub numbers : List ℕ
   pub chosen : List SlotId
-  pub sought : IsSought old titles o source program suite chosen
-  pub answered : IsAnswer o source program suite.tests chosen answer
+  pub sought : IsSought old rankers o source program suite numbers chosen
+  pub answered : IsAnswer o source program suite.tests numbers chosen answer
 
 -- `repair` is stopped: it is refused; or it isn't built; or memory is wanting
-pub data RepairStops (old new : Seen) (titles : List (List ℕ)) (o : RepairOrder) (why : Stop) : Type 0 where
-  refused : RepairRefused old new titles o why → RepairStops old new titles o why
-  unbuilt : (source : List ℕ) (program : Program) (suite : Suite) → RepairIsFine old titles o source program suite
-      → chosen_of program o ≡ None → why ≡ NotBuilt → RepairStops old new titles o why
-  memory : why ≡ Memory → RepairStops old new titles o why
+pub data RepairStops (old new : Seen) (rankers : List Handed) (o : RepairOrder) (why : Stop) : Type 0 where
+  refused : RepairRefused old new rankers o why → RepairStops old new rankers o why
+  unbuilt : (source : List ℕ) (program : Program) (suite : Suite) → RepairIsFine old rankers o source program suite
+      → IsUnbuilt rankers o program suite.tests → why ≡ NotBuilt → RepairStops old new rankers o why
+  memory : why ≡ Memory → RepairStops old new rankers o why
 
-abbrev pub RepairEnds : Seen → Seen → List (List ℕ) → RepairOrder → Result Answer Stop → Type 0
-RepairEnds old new titles o (Ok answer) = Answers old titles o answer
-RepairEnds old new titles o (Err why) = RepairStops old new titles o why
+abbrev pub RepairEnds : Seen → Seen → List Handed → RepairOrder → Result Answer Stop → Type 0
+RepairEnds old new rankers o (Ok answer) = Answers old rankers o answer
+RepairEnds old new rankers o (Err why) = RepairStops old new rankers o why

@@ -1,28 +1,35 @@
 //! The search for a repair, and the report of what it finds.
-ghost use Rattle.std.specs.Prelude.{◌≡◌, ◌≤◌, ◌∷◌, ◌++◌, [], IfOk, codes, string_bytes};
+ghost use Rattle.std.specs.Prelude.{◌≡◌, ◌≤◌, ◌∷◌, ◌++◌, [], IfOk, codes, map, string_bytes};
 ghost use Rattle.std.specs.Fmt.{decimal};
+ghost use Rattle.ax_coverage.specs.Handed.{handed};
 ghost use Rattle.ax_front.specs.Texts.{IsProgramOfText};
 ghost use Rattle.ax_repair.specs.Written.{is_changed};
 ghost use Rattle.ax_top.specs.Built.{IsPicked};
-ghost use Rattle.ax_top.specs.Repairs.{IsAnswer, Searched, change_line, change_lines, cost_line, expression_line, repaired_report};
+ghost use Rattle.ax_top.specs.Orders.{HasRanker};
+ghost use Rattle.ax_top.specs.Repairs.{Answered, IsAnswer, Searched, change_line, change_lines, cost_line, expression_line, repaired_report};
 
 use crate::built::{Picked, picked_of};
+use crate::choosing::chosen_numbers;
 use crate::files::Stop;
+use crate::telling::Told;
 use ax_mended::{comparisons_are_writable, repaired_passes, stays_at_cost_0};
 use ax_print::expr_text;
 use ax_prog::same::same_expr;
 use ax_prog::{Expr, Program, SlotId, Suite};
+use ax_rank::Ranker;
 use ax_repair::{Outcome, Repaired};
 use ax_words::RepairOrder;
 use sqlite_items::Items;
 use std::alloc::{AllocError, Global};
 
-/// What an order to repair comes to.
-#[derive(Debug, Drop)]
+/// What an order other than to prove comes to.
+#[derive(Drop)]
 pub enum Answer {
     /// A repaired source, and what is reported of it.
     Repaired { text: Items<u8>, report: Items<u8> },
     NoRepair,
+    /// Of an order to run or to rank only a report comes.
+    Reported(Told),
 }
 
 fn cost_text(alloc: Global, cost: u64) -> Result<String, AllocError>
@@ -31,13 +38,13 @@ fn cost_text(alloc: Global, cost: u64) -> Result<String, AllocError>
     format!(in alloc; "repaired, cost {cost}\n")
 }
 
-fn number_text(alloc: Global, number: u32) -> Result<String, AllocError>
+fn number_text(alloc: Global, number: u64) -> Result<String, AllocError>
     ensures { IfOk result (λ s. string_bytes s ≡ codes "expression " ++ (decimal number ++ codes ": ")) }
 {
     format!(in alloc; "expression {number}: ")
 }
 
-fn expression_text(alloc: Global, number: u32, text: &[u8]) -> Result<Items<u8>, AllocError>
+fn expression_text(alloc: Global, number: u64, text: &[u8]) -> Result<Items<u8>, AllocError>
     ensures { IfOk result (λ line. line ≡ expression_line number text.now) }
 {
     let head = number_text(alloc, number)?;
@@ -63,7 +70,7 @@ fn change_text(
     alloc: Global,
     source: &[u8],
     program: &Program,
-    number: u32,
+    number: u64,
     id: SlotId,
     tree: &Expr,
 ) -> Result<Items<u8>, AllocError>
@@ -120,9 +127,9 @@ fn answer_to(
     picked: Picked,
 ) -> Result<Answer, AllocError>
     requires read { IsProgramOfText source.now program.now }
-    requires picked { IsPicked program.now order.now picked }
+    requires picked { IsPicked program.now order.now.sets picked }
     requires grow { order.now.bounds.grow ≤ 20 }
-    ensures { IfOk result (IsAnswer order.now source.now program.now suite.now.tests (picked.slot ∷ [])) }
+    ensures { IfOk result (IsAnswer order.now source.now program.now suite.now.tests (picked.number ∷ []) (picked.slot ∷ [])) }
 {
     // what is written reads back, and is the source where nothing changes
     comparisons_are_writable();
@@ -151,24 +158,45 @@ fn answer_to(
     }
 }
 
-/// The answer to an order to repair, or that it isn't built.
-pub fn search(
+// The answer to an order that chooses these numbers, or that it isn't built.
+fn answer_for(
     alloc: Global,
     order: &RepairOrder,
     source: &[u8],
     program: &Program,
     suite: &Suite,
+    numbers: &[u64],
 ) -> Result<Answer, Stop>
     requires read { IsProgramOfText source.now program.now }
     requires grow { order.now.bounds.grow ≤ 20 }
-    ensures { Searched order.now source.now program.now suite.now.tests result }
+    ensures { Answered order.now source.now program.now suite.now.tests numbers.now result }
 {
-    match picked_of(alloc, order, program) {
+    match picked_of(alloc, &order.sets, numbers, program) {
         Err(_) => Err(Stop::Memory),
         Ok(None) => Err(Stop::NotBuilt),
         Ok(Some(picked)) => match answer_to(alloc, order, source, program, suite, picked) {
             Err(_) => Err(Stop::Memory),
             Ok(answer) => Ok(answer),
         },
+    }
+}
+
+/// The answer to an order to repair, or that it isn't built.
+pub fn search(
+    alloc: Global,
+    order: &RepairOrder,
+    rankers: &mut [Box<dyn Ranker>],
+    source: &[u8],
+    program: &Program,
+    suite: &Suite,
+) -> Result<Answer, Stop>
+    requires read { IsProgramOfText source.now program.now }
+    requires grow { order.now.bounds.grow ≤ 20 }
+    requires ranker { HasRanker (map (λ r. handed (title r) (runs r) (formula r)) rankers.old) order.now.choice }
+    ensures { Searched (map (λ r. handed (title r) (runs r) (formula r)) rankers.old) order.now source.now program.now suite.now.tests result }
+{
+    match chosen_numbers(alloc, order, rankers, program, suite.tests.as_slice()) {
+        Err(_) => Err(Stop::Memory),
+        Ok(numbers) => answer_for(alloc, order, source, program, suite, numbers.as_slice()),
     }
 }

@@ -1,10 +1,8 @@
 //! Which orders to repair are built.
-ghost use Rattle.std.specs.Prelude.{◌≡◌, ◌-◌, ◌^◌, min, nat_le, option_and_then, None, IfOk, MatchOption};
+ghost use Rattle.std.specs.Prelude.{◌≡◌, ◌∷◌, [], ◌-◌, ◌^◌, min, nat_le, option_and_then, None, IfOk, MatchOption};
 ghost use Rattle.ax_top.specs.Built.{IsPicked, are_comparisons, binaries, built_slot, candidate_at, only, small_slot};
-ghost use Rattle.ax_top.specs.Orders.{numbers_of};
 
 use ax_prog::{Expr, Program, Sets, SlotId};
-use ax_words::{Choice, RepairOrder};
 use std::alloc::{AllocError, Global};
 
 // The binary operators of a tree, or 4294967295 where there are more.
@@ -56,7 +54,7 @@ fn small(program: &Program, id: SlotId) -> Option<SlotId>
     }
 }
 
-fn candidate(alloc: Global, program: &Program, number: u32) -> Result<Option<SlotId>, AllocError>
+fn candidate(alloc: Global, program: &Program, number: u64) -> Result<Option<SlotId>, AllocError>
     ensures { IfOk result (λ found. found ≡ candidate_at program.now number) }
 {
     let candidates = program.candidates(alloc)?;
@@ -66,16 +64,13 @@ fn candidate(alloc: Global, program: &Program, number: u32) -> Result<Option<Slo
     }
 }
 
-// The only picked number.
-fn picked_number(choice: &Choice) -> Option<u32>
-    ensures { result ≡ only (numbers_of choice.now) }
+// The only one of the numbers.
+fn only(numbers: &[u64]) -> Option<u64>
+    ensures { result ≡ only numbers.now }
 {
-    match choice {
-        Choice::Top { .. } => None,
-        Choice::Pick(numbers) => match numbers.as_slice() {
-            [number] => Some(*number),
-            _ => None,
-        },
+    match numbers {
+        [number] => Some(*number),
+        _ => None,
     }
 }
 
@@ -83,7 +78,7 @@ fn picked_number(choice: &Choice) -> Option<u32>
 fn small_candidate(
     alloc: Global,
     program: &Program,
-    number: u32,
+    number: u64,
 ) -> Result<Option<SlotId>, AllocError>
     ensures { IfOk result (λ found. found ≡ option_and_then (small_slot program.now) (candidate_at program.now number)) }
 {
@@ -107,26 +102,27 @@ fn takes_comparisons(sets: &Sets) -> bool
         && !sets.guard
 }
 
-/// The one picked number, and the slot of its candidate.
+/// The one chosen number, and the slot of its candidate.
 #[derive(Clone, Copy, Debug)]
 pub struct Picked {
-    pub number: u32,
+    pub number: u64,
     pub slot: SlotId,
 }
 
-/// What is picked, where the order is built: one candidate of at most three binary operators, other than that of the
-/// `return 0;` at the end, and comparisons alone.
+/// What is chosen, where an order is built that takes these sets and chooses these numbers: one candidate of at most
+/// three binary operators, other than that of the `return 0;` at the end, and comparisons alone.
 pub fn picked_of(
     alloc: Global,
-    order: &RepairOrder,
+    sets: &Sets,
+    numbers: &[u64],
     program: &Program,
 ) -> Result<Option<Picked>, AllocError>
-    ensures { IfOk result (λ found. MatchOption found (built_slot program.now order.now ≡ None) (IsPicked program.now order.now)) }
+    ensures { IfOk result (λ found. MatchOption found (built_slot program.now sets.now numbers.now ≡ None) (λ picked. (numbers.now ≡ picked.number ∷ []) × IsPicked program.now sets.now picked)) }
 {
-    if !takes_comparisons(&order.sets) {
+    if !takes_comparisons(sets) {
         return Ok(None);
     }
-    let Some(number) = picked_number(&order.choice) else {
+    let Some(number) = only(numbers) else {
         return Ok(None);
     };
     match small_candidate(alloc, program, number)? {

@@ -1,5 +1,6 @@
 //! The top call.
 ghost use Rattle.std.specs.Prelude.{map, string_bytes};
+ghost use Rattle.ax_coverage.specs.Handed.{handed};
 ghost use Rattle.ax_top.specs.Causes.{Does, Keeps, OrderStopped, WordsRefused};
 ghost use Rattle.ax_top.specs.Complete.{Complete};
 ghost use Rattle.ax_top.specs.Headline.{Headline};
@@ -10,6 +11,7 @@ use crate::files::Stop;
 use crate::orders::result_of;
 use crate::proving::prove;
 use crate::report::{print_refusal, status_of, stop_text, words_text};
+use ax_coverage::one_candidate_order;
 use ax_outside::Shelf;
 use ax_rank::Ranker;
 use ax_words::{Order, WordFault, read_words};
@@ -49,8 +51,8 @@ fn refuse_order<S: Shelf>(alloc: Global, order: &Order, stop: Stop, shelf: &mut 
 ///
 /// | Status | Comes |
 /// |---|---|
-/// | 0 | a least repair was written under OUT and reported, or a proof that clauses have no model under PROOF |
-/// | 1 | there is no repair, or the clauses have a model |
+/// | 0 | a least repair was written under OUT and reported, or a proof that clauses have no model under PROOF, or every test passes, or the candidates were ranked |
+/// | 1 | there is no repair, or the clauses have a model, or a test doesn't pass |
 /// | 2 | the words are no order, no handed-in ranker has the name that it needs, or a picked number is no candidate's |
 /// | 3 | the source spells no tokens, or they nest too deeply |
 /// | 4 | the tests are no suite |
@@ -67,26 +69,30 @@ fn refuse_order<S: Shelf>(alloc: Global, order: &Order, stop: Stop, shelf: &mut 
 /// at 7 after a put that failed, nothing is. No name of the shelf but OUT or PROOF
 /// changes, OUT at 0 and 7 alone, and PROOF at 0, 7 and 9.
 ///
-/// An order to repair is built where it takes `cmp` alone and picks one candidate of at most three binary operators,
-/// other than that of the `return 0;` at the end.
+/// An order to repair is built where it takes `cmp` alone and chooses one candidate of at most three binary operators,
+/// other than that of the `return 0;` at the end. Where it picks none, it chooses the first ones in the order of
+/// suspicion, by the first ranker of the name that it needs. That ranker sees the run of each test, and no other ranker
+/// sees a run. All rankers are dropped before the call answers.
 pub fn angelix<S: Shelf>(
     alloc: Global,
     words: Vec<String>,
     shelf: &mut S,
-    rankers: Vec<Box<dyn Ranker>>,
+    mut rankers: Vec<Box<dyn Ranker>>,
 ) -> u8
-    ensures does { Does (S.seen shelf.old) (S.seen shelf.new) (map (λ r. title r) rankers.items) (map string_bytes words.items) result }
-    ensures headline { Headline (S.seen shelf.old) (S.seen shelf.new) (map (λ r. title r) rankers.items) (map string_bytes words.items) result }
-    ensures complete { Complete (S.seen shelf.old) (S.seen shelf.new) (map string_bytes words.items) result }
+    ensures does { Does (S.seen shelf.old) (S.seen shelf.new) (map (λ r. handed (title r) (runs r) (formula r)) rankers.items) (map string_bytes words.items) result }
+    ensures headline { Headline (S.seen shelf.old) (S.seen shelf.new) (map (λ r. handed (title r) (runs r) (formula r)) rankers.items) (map string_bytes words.items) result }
+    ensures complete { Complete (S.seen shelf.old) (S.seen shelf.new) (map (λ r. handed (title r) (runs r) (formula r)) rankers.items) (map string_bytes words.items) result }
     ensures proving { Proving (S.seen shelf.old) (S.seen shelf.new) (map string_bytes words.items) result }
     ensures keeps { Keeps (S.seen shelf.old) (S.seen shelf.new) (map string_bytes words.items) }
 {
+    // a suite has one order of suspicion
+    one_candidate_order();
     match read_words(alloc, &words) {
         Err(fault) => refuse_words(alloc, &fault, shelf),
         Ok(Order::Prove { cnf, proof, budget }) => {
             prove(alloc, cnf.as_str(), proof.as_str(), budget, shelf)
         }
-        Ok(order) => match result_of(alloc, &order, &rankers, shelf) {
+        Ok(order) => match result_of(alloc, &order, rankers.as_mut_slice(), shelf) {
             Err(stop) => refuse_order(alloc, &order, stop, shelf),
             Ok(answer) => give(&order, &answer, shelf),
         },

@@ -45,5 +45,6 @@ pub fn give<S: Shelf>(order: &Order, answer: &Answer, shelf: &mut S) -> u8
             report: lines,
         } => deliver(shelf, out_in(order), text.as_slice(), lines.as_slice(), 0),
         Answer::NoRepair => report(shelf, b"no repair\n", 1),
+        Answer::Reported(told) => report(shelf, told.report.as_slice(), told.status),
     }
 }

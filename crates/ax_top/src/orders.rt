@@ -1,14 +1,16 @@
 //! The orders, command by command: what each comes to, or what stops it.
 ghost use Rattle.std.specs.Prelude.{◌≡◌, ◌≤◌, map, string_bytes};
+ghost use Rattle.ax_coverage.specs.Handed.{handed};
 ghost use Rattle.ax_outside.specs.Seen.{NoLess, Same};
-ghost use Rattle.ax_top.specs.Orders.{CheckStops, ChoiceJudged, PicksJudged, RankStops, RepairJudged, RunStops, first_beyond, numbers_of};
-ghost use Rattle.ax_top.specs.Ends.{Ends, GrowsLittle, IsOther};
+ghost use Rattle.ax_top.specs.Orders.{CheckStops, ChoiceJudged, PicksJudged, RepairJudged, first_beyond, numbers_of};
+ghost use Rattle.ax_top.specs.Ends.{Ends, GrowsLittle, IsOther, told_answer};
 ghost use Rattle.ax_top.specs.Repairs.{RepairEnds};
 
 use crate::answer::{Answer, search};
 use crate::files::{File, Stop, read_file};
 use crate::judging::{Judged, judge_files};
 use crate::rankers::judge_ranker;
+use crate::telling::{Told, rank, run};
 use ax_outside::Shelf;
 use ax_prog::Program;
 use ax_rank::Ranker;
@@ -17,7 +19,7 @@ use std::alloc::Global;
 
 // Whether a choice by a formula has its ranker.
 fn judge_choice(choice: &Choice, rankers: &[Box<dyn Ranker>]) -> Result<(), Stop>
-    ensures { ChoiceJudged (map (λ r. title r) rankers.now) choice.now result }
+    ensures { ChoiceJudged (map (λ r. handed (title r) (runs r) (formula r)) rankers.now) choice.now result }
 {
     match choice {
         Choice::Top { formula, .. } => match judge_ranker(rankers, formula.as_str()) {
@@ -71,7 +73,7 @@ fn judge_repair<S: Shelf>(
     rankers: &[Box<dyn Ranker>],
     shelf: &mut S,
 ) -> Result<Judged, Stop>
-    ensures judged { RepairJudged (S.seen shelf.old) (S.seen shelf.new) (map (λ r. title r) rankers.now) order.now result }
+    ensures judged { RepairJudged (S.seen shelf.old) (S.seen shelf.new) (map (λ r. handed (title r) (runs r) (formula r)) rankers.now) order.now result }
     ensures same { Same (S.seen shelf.old) (S.seen shelf.new) }
     ensures counts { NoLess (S.seen shelf.old) (S.seen shelf.new) }
 {
@@ -84,11 +86,11 @@ fn judge_repair<S: Shelf>(
 fn repair<S: Shelf>(
     alloc: Global,
     order: &RepairOrder,
-    rankers: &[Box<dyn Ranker>],
+    rankers: &mut [Box<dyn Ranker>],
     shelf: &mut S,
 ) -> Result<Answer, Stop>
     requires { order.now.bounds.grow ≤ 20 }
-    ensures ends { RepairEnds (S.seen shelf.old) (S.seen shelf.new) (map (λ r. title r) rankers.now) order.now result }
+    ensures ends { RepairEnds (S.seen shelf.old) (S.seen shelf.new) (map (λ r. handed (title r) (runs r) (formula r)) rankers.old) order.now result }
     ensures same { Same (S.seen shelf.old) (S.seen shelf.new) }
     ensures counts { NoLess (S.seen shelf.old) (S.seen shelf.new) }
 {
@@ -97,6 +99,7 @@ fn repair<S: Shelf>(
         Ok(judged) => search(
             alloc,
             order,
+            rankers,
             judged.source.bytes.as_slice(),
             &judged.source.program,
             &judged.suite,
@@ -118,32 +121,13 @@ fn check<S: Shelf>(alloc: Global, source: &str, tests: &str, cert: &str, shelf: 
     }
 }
 
-fn run<S: Shelf>(alloc: Global, source: &str, tests: &str, shelf: &mut S) -> Stop
-    ensures stops { RunStops (S.seen shelf.old) (S.seen shelf.new) source.now tests.now result }
-    ensures same { Same (S.seen shelf.old) (S.seen shelf.new) }
-    ensures counts { NoLess (S.seen shelf.old) (S.seen shelf.new) }
+// The answer of which only a report comes.
+fn told(end: Result<Told, Stop>) -> Result<Answer, Stop>
+    ensures { result ≡ told_answer end }
 {
-    match judge_files(alloc, source, tests, shelf) {
-        Err(stop) => stop,
-        Ok(_) => Stop::NotBuilt,
-    }
-}
-
-fn rank<S: Shelf>(
-    alloc: Global,
-    source: &str,
-    tests: &str,
-    formula: &str,
-    rankers: &[Box<dyn Ranker>],
-    shelf: &mut S,
-) -> Stop
-    ensures stops { RankStops (S.seen shelf.old) (S.seen shelf.new) (map (λ r. title r) rankers.now) source.now tests.now formula.now result }
-    ensures same { Same (S.seen shelf.old) (S.seen shelf.new) }
-    ensures counts { NoLess (S.seen shelf.old) (S.seen shelf.new) }
-{
-    match judge_ranker(rankers, formula) {
-        Err(stop) => stop,
-        Ok(_) => run(alloc, source, tests, shelf),
+    match end {
+        Ok(told) => Ok(Answer::Reported(told)),
+        Err(stop) => Err(stop),
     }
 }
 
@@ -151,12 +135,12 @@ fn rank<S: Shelf>(
 pub fn result_of<S: Shelf>(
     alloc: Global,
     order: &Order,
-    rankers: &[Box<dyn Ranker>],
+    rankers: &mut [Box<dyn Ranker>],
     shelf: &mut S,
 ) -> Result<Answer, Stop>
     requires grows { GrowsLittle order.now }
     requires other { IsOther order.now }
-    ensures ends { Ends (S.seen shelf.old) (S.seen shelf.new) (map (λ r. title r) rankers.now) order.now result }
+    ensures ends { Ends (S.seen shelf.old) (S.seen shelf.new) (map (λ r. handed (title r) (runs r) (formula r)) rankers.old) order.now result }
     ensures same { Same (S.seen shelf.old) (S.seen shelf.new) }
     ensures counts { NoLess (S.seen shelf.old) (S.seen shelf.new) }
 {
@@ -168,17 +152,22 @@ pub fn result_of<S: Shelf>(
             cert,
             ..
         } => Err(check(alloc, source.as_str(), tests.as_str(), cert.as_str(), shelf)),
-        Order::Run { source, tests, .. } => Err(run(alloc, source.as_str(), tests.as_str(), shelf)),
+        Order::Run {
+            source,
+            tests,
+            steps,
+        } => told(run(alloc, source.as_str(), tests.as_str(), *steps, shelf)),
         Order::Rank {
             source,
             tests,
             formula,
-            ..
-        } => Err(rank(
+            steps,
+        } => told(rank(
             alloc,
             source.as_str(),
             tests.as_str(),
             formula.as_str(),
+            *steps,
             rankers,
             shelf,
         )),

@@ -1,7 +1,8 @@
 //! The handed-in rankers.
-ghost use Rattle.std.specs.Prelude.{◌≡◌, map};
+ghost use Rattle.std.specs.Prelude.{◌≡◌, ◌<◌, IfOk, IfSome, length, map};
 ghost use Rattle.std.specs.Str.{bytes_eq};
-ghost use Rattle.ax_top.specs.Orders.{RankerJudged, ranker_at};
+ghost use Rattle.ax_coverage.specs.Handed.{handed, ranker_at};
+ghost use Rattle.ax_top.specs.Orders.{RankerJudged};
 
 use crate::files::Stop;
 use ax_rank::Ranker;
@@ -14,7 +15,8 @@ fn has_name(ranker: &Box<dyn Ranker>, name: &str) -> bool
 
 /// The place of the first ranker of that name.
 pub fn place_of(rankers: &[Box<dyn Ranker>], name: &str) -> Option<usize>
-    ensures { result ≡ ranker_at (map (λ r. title r) rankers.now) name.now }
+    ensures first { result ≡ ranker_at (map (λ r. handed (title r) (runs r) (formula r)) rankers.now) name.now }
+    ensures within { IfSome result (λ at. at < length rankers.now) }
 {
     for (i, ranker) in rankers.iter().enumerate() {
         if has_name(ranker, name) {
@@ -26,7 +28,8 @@ pub fn place_of(rankers: &[Box<dyn Ranker>], name: &str) -> Option<usize>
 
 /// The place of the ranker that an order needs.
 pub fn judge_ranker(rankers: &[Box<dyn Ranker>], name: &str) -> Result<usize, Stop>
-    ensures { RankerJudged (map (λ r. title r) rankers.now) name.now result }
+    ensures first { RankerJudged (map (λ r. handed (title r) (runs r) (formula r)) rankers.now) name.now result }
+    ensures within { IfOk result (λ at. at < length rankers.now) }
 {
     match place_of(rankers, name) {
         Some(place) => Ok(place),

@@ -13,7 +13,7 @@ const SOURCE: &str =
 
 const TESTS: &str = "[{\"in\":[1,2],\"out\":[1]}]";
 
-// A ranker of the name `jaccard`, of whose scores nothing is asked here.
+// A ranker of the name `jaccard` that gives all places one score, so that they stay in source order.
 #[derive(Drop)]
 struct Named {
     alloc: Global,
@@ -185,7 +185,7 @@ fn sources_are_judged(rt: HostRuntime) -> Result<(), Fail> {
     Ok(())
 }
 
-const SUITES: [Row; 12] = [
+const SUITES: [Row; 10] = [
     ("repair s m o c", SOURCE, TESTS, 6, "read failed: m\n"),
     (
         "repair s t o c --pick 9",
@@ -225,8 +225,6 @@ const SUITES: [Row; 12] = [
         "no candidate 5 of 4\n",
     ),
     ("repair s t o c", SOURCE, TESTS, 11, "not built\n"),
-    ("run s t", SOURCE, "[]", 11, "not built\n"),
-    ("rank s t", SOURCE, TESTS, 11, "not built\n"),
     ("gen 1", SOURCE, TESTS, 11, "not built\n"),
 ];
 
@@ -238,8 +236,15 @@ fn suites_and_numbers_are_judged(rt: HostRuntime) -> Result<(), Fail> {
     Ok(())
 }
 
-// Four ways in which an order isn't built: another set, two numbers, the last expression, and four binary operators.
-const UNBUILT: [Row; 5] = [
+// Ways in which an order isn't built: another set, two numbers, the last expression, and four binary operators.
+const UNBUILT: [Row; 6] = [
+    (
+        "repair s t o c --top 2 --with cmp",
+        SOURCE,
+        TESTS,
+        11,
+        "not built\n",
+    ),
     ("repair s t o c --pick 1", SOURCE, TESTS, 11, "not built\n"),
     (
         "repair s t o c --pick 1 --with cmp,consts",
@@ -274,6 +279,46 @@ const UNBUILT: [Row; 5] = [
 #[test]
 fn some_orders_are_not_built(rt: HostRuntime) -> Result<(), Fail> {
     for row in UNBUILT {
+        assert!(rt; is_answered(rt.alloc(), row)?, "at {}", row.0);
+    }
+    Ok(())
+}
+
+const REPORTS: [Row; 5] = [
+    ("run s t", SOURCE, "[]", 0, "0 of 0 pass\n"),
+    (
+        "run s t --steps 7",
+        SOURCE,
+        TESTS,
+        0,
+        "test 1: passes\n1 of 1 pass\n",
+    ),
+    (
+        "run s t --steps 6",
+        SOURCE,
+        TESTS,
+        1,
+        "test 1: fails, out of steps\n0 of 1 pass\n",
+    ),
+    (
+        "run s t",
+        SOURCE,
+        FOUR,
+        1,
+        "test 1: passes\ntest 2: fails, wrong output\ntest 3: passes\ntest 4: passes\n3 of 4 pass\n",
+    ),
+    (
+        "rank s t",
+        SOURCE,
+        TESTS,
+        0,
+        "expression 1: 0/1\nexpression 2: 0/1\nexpression 3: 0/1\nexpression 4: 0/1\n",
+    ),
+];
+
+#[test]
+fn runs_and_ranks_are_reported(rt: HostRuntime) -> Result<(), Fail> {
+    for row in REPORTS {
         assert!(rt; is_answered(rt.alloc(), row)?, "at {}", row.0);
     }
     Ok(())
@@ -323,7 +368,14 @@ fn is_mended(alloc: Global, row: Mended) -> Result<bool, AllocError> {
 const FOUR: &str =
     "[{\"in\":[1,2],\"out\":[1]},{\"in\":[2,2],\"out\":[1]},{\"in\":[3,2],\"out\":[0]},{\"in\":[5,7],\"out\":[1]}]";
 
-const MENDED: [Mended; 9] = [
+const MENDED: [Mended; 10] = [
+    (
+        "repair s t o c --with cmp",
+        FOUR,
+        Some("(x <= y)"),
+        0,
+        "repaired, cost 1\nexpression 1: (x <= y)\n",
+    ),
     (
         PICK_ONE,
         FOUR,

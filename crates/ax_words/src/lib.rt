@@ -9,8 +9,6 @@ mod order;
 mod prove;
 mod read;
 mod repair;
-#[cfg(test)]
-mod tests;
 
 pub use laws::{one_order, orders_have_no_fault};
 pub use order::{Choice, Order, RepairOrder, WordFault};

@@ -2,7 +2,7 @@ use Rattle.ax_top.proofs.Chosen.{mended, picked-chosen}
 use Rattle.ax_top.proofs.answer.answer_to.Goals as goal
 
 pub repair-requires-clause-chosen : goal.repair-requires-clause-chosen
-repair-requires-clause-chosen c = picked-chosen c.args.program.now c.args.order.now c.args.picked c.requires.picked
+repair-requires-clause-chosen c = picked-chosen c.args.program.now (c.args.order.now).sets c.args.picked c.requires.picked
 
 pub returns-in_ok-report-in-Repaired : goal.returns-in_ok-report-in-Repaired
 returns-in_ok-report-in-Repaired c =

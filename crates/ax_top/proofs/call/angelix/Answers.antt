@@ -1,5 +1,5 @@
 use Rattle.ax_top.proofs.Completing.{complete}
-use Rattle.ax_top.proofs.Grown.{grows-little, proves-some}
+use Rattle.ax_top.proofs.Grown.{grows-little}
 use Rattle.ax_top.proofs.Promises.{headline, keeps}
 use Rattle.ax_top.proofs.Proofs.{proving}
 use Rattle.ax_top.proofs.Rows.{answered-does, proves-does, refused-does, stopped-does}
@@ -12,31 +12,31 @@ returns-in-Err-clause-does g c =
 pub returns-in-Err-result_of-clause-does : goal.returns-in-Err-result_of-clause-does
 returns-in-Err-result_of-clause-does g c =
     stopped-does (g.S.Shelf.seen c.args.shelf.now) (g.S.Shelf.seen c.refuse_order.new.shelf) c.deref.result.now c.args.words.items
-    c.deref.ensures.value c.refuse_order.result _ c.deref-in-Ok.result.now c.args.rankers.items c.deref-in-Ok.ensures.value
+    c.deref.ensures.value c.refuse_order.result _ c.as_mut_slice.result.now c.args.rankers.items c.as_mut_slice.ensures.value
     c.in-Ok.order c.in-Err-result_of.stop (g.S.Shelf.seen c.result_of.new.shelf) c.in-Ok.ensures c.in-Err-result_of.ensures.ends
     c.in-Err-result_of.ensures.same c.in-Err-result_of.ensures.counts c.refuse_order.ensures
 
 pub returns-in-Err-clause-complete : goal.returns-in-Err-clause-complete
-returns-in-Err-clause-complete g c = complete _ _ _ _ _ (returns-in-Err-clause-does g c)
+returns-in-Err-clause-complete g c = complete c.one_candidate_order.ensures _ _ _ _ _ (returns-in-Err-clause-does g c)
 
 pub returns-in-Err-result_of-clause-headline : goal.returns-in-Err-result_of-clause-headline
 returns-in-Err-result_of-clause-headline g c = headline _ _ _ _ _ (returns-in-Err-result_of-clause-does g c)
 
 pub returns-in-Err-result_of-clause-complete : goal.returns-in-Err-result_of-clause-complete
-returns-in-Err-result_of-clause-complete g c = complete _ _ _ _ _ (returns-in-Err-result_of-clause-does g c)
+returns-in-Err-result_of-clause-complete g c = complete c.one_candidate_order.ensures _ _ _ _ _ (returns-in-Err-result_of-clause-does g c)
 
 pub returns-clause-does : goal.returns-clause-does
 returns-clause-does g c =
     answered-does (g.S.Shelf.seen c.args.shelf.now) (g.S.Shelf.seen c.give.new.shelf) c.deref.result.now c.args.words.items
-    c.deref.ensures.value c.give.result _ c.deref-in-Ok.result.now c.args.rankers.items c.deref-in-Ok.ensures.value
-    c.in-Ok.order c.in-Ok-result_of.answer (g.S.Shelf.seen c.result_of.new.shelf) c.in-Ok.ensures c.in-Ok-result_of.ensures.ends
-    c.in-Ok-result_of.ensures.same c.in-Ok-result_of.ensures.counts c.give.ensures
+    c.deref.ensures.value c.give.result _ c.as_mut_slice.result.now c.args.rankers.items c.as_mut_slice.ensures.value
+    (g.S.Shelf.seen c.result_of.new.shelf) c.in-Ok-result_of.ensures.same c.in-Ok-result_of.ensures.counts
+    c.in-Ok.order c.in-Ok-result_of.answer c.in-Ok.ensures c.in-Ok-result_of.ensures.ends c.give.ensures
 
 pub returns-clause-headline : goal.returns-clause-headline
 returns-clause-headline g c = headline _ _ _ _ _ (returns-clause-does g c)
 
 pub returns-clause-complete : goal.returns-clause-complete
-returns-clause-complete g c = complete _ _ _ _ _ (returns-clause-does g c)
+returns-clause-complete g c = complete c.one_candidate_order.ensures _ _ _ _ _ (returns-clause-does g c)
 
 pub returns-clause-keeps : goal.returns-clause-keeps
 returns-clause-keeps g c = keeps _ _ _ _ _ (returns-clause-does g c)
@@ -57,7 +57,7 @@ pub returns-in-Ok-Prove-clause-headline : goal.returns-in-Ok-Prove-clause-headli
 returns-in-Ok-Prove-clause-headline g c = headline _ _ _ _ _ (returns-in-Ok-Prove-clause-does g c)
 
 pub returns-in-Ok-Prove-clause-complete : goal.returns-in-Ok-Prove-clause-complete
-returns-in-Ok-Prove-clause-complete g c = complete _ _ _ _ _ (returns-in-Ok-Prove-clause-does g c)
+returns-in-Ok-Prove-clause-complete g c = complete c.one_candidate_order.ensures _ _ _ _ _ (returns-in-Ok-Prove-clause-does g c)
 
 pub returns-in-Ok-Prove-clause-proving : goal.returns-in-Ok-Prove-clause-proving
 returns-in-Ok-Prove-clause-proving g c = proving _ _ _ _ _ (returns-in-Ok-Prove-clause-does g c)
