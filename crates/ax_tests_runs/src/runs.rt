@@ -1,0 +1,166 @@
+//! Programs that the plain program and the interpreter run alike. What they print, return and use was found by hand from the
+//! standard's rules.
+
+use crate::texts::{BELOW, program_of};
+use ax_flow::lower;
+use ax_interp::run;
+use ax_meaning::{Run, RunEnd, Why};
+use ax_plain::{evaluations_of, passes};
+use ax_prog::copy::copy_stmt;
+use ax_prog::{Fun, FunId, Lval, Program, SlotId, Stmt, Ty, VarId};
+use ax_suite::read_suite;
+use sqlite_items::{Boxed, Items};
+use std::alloc::{AllocError, Global};
+use std::process::Abort;
+use std::test::Fail;
+
+/// How a run ended: the number returned, or why it is undefined, or neither where it is out of steps; and what it printed.
+fn ended(run: &Run) -> (Option<i32>, Option<Why>, &[i32]) {
+    match &run.end {
+        RunEnd::Returned { out, ret } => (Some(*ret), None, out.as_slice()),
+        RunEnd::Undefined { why, out } => (None, Some(*why), out.as_slice()),
+        RunEnd::OutOfSteps { out } => (None, None, out.as_slice()),
+    }
+}
+
+/// Outputs too few, too many and right, and a number returned; the second input is only reached by the second number.
+#[test]
+fn a_program_passes_its_tests(rt: HostRuntime) -> Result<(), Fail> {
+    let alloc = rt.alloc();
+    let program = program_of(alloc, BELOW)?;
+    let text =
+        "[{\"in\":[1,2],\"out\":[1]},{\"in\":[1,2],\"out\":[1,1]},{\"in\":[1,2],\"out\":[]},{\"in\":[1,2],\"out\":[1],\"ret\":1},{\"in\":[2,2],\"out\":[0]}]";
+    let suite = read_suite(alloc, text.as_bytes()).ok().ok_or("no suite")?;
+    let wanted = [true, false, false, false, true];
+    assert_eq!(rt; suite.tests.len(), wanted.len());
+    for (test, wanted) in suite.tests.as_slice().iter().zip(wanted) {
+        let done = ax_plain::run(alloc, &program, test.inputs.as_slice(), 100)?;
+        assert_eq!(rt; passes(&done, test), wanted);
+    }
+    Ok(())
+}
+
+/// Of two inputs the run has seven steps, and evaluates the printed 1 and the returned 0 once each, but not the other 0. Of one
+/// input it is undefined in its fourth step.
+#[test]
+fn runs_count_steps_and_evaluations(rt: HostRuntime) -> Result<(), Fail> {
+    let alloc = rt.alloc();
+    let program = program_of(alloc, BELOW)?;
+    let done = ax_plain::run(alloc, &program, &[1, 2], 100)?;
+    assert_eq!(rt; done.used, 7);
+    for (slot, evaluations) in [(1, 1), (2, 0), (3, 1)] {
+        assert_eq!(rt; evaluations_of(&done, SlotId(slot)), evaluations);
+    }
+    let stopped = ax_plain::run(alloc, &program, &[1], 100)?;
+    assert_eq!(rt; ended(&stopped), (None, Some(Why::NoInput), [].as_slice()));
+    assert_eq!(rt; stopped.used, 4);
+    Ok(())
+}
+
+/// A function for each of these numbers, that calls the function of that number. The first is `main`.
+fn calls(alloc: Global, callees: &[u32]) -> Result<Program, AllocError> {
+    let mut funs = Items::new(alloc);
+    for callee in callees {
+        let call = Stmt::Call(FunId(*callee), Items::new(alloc));
+        funs.push(Fun {
+            name: Items::new(alloc),
+            params: Items::new(alloc),
+            result: Some(Ty::Int),
+            body: Items::from_vec(vec![in alloc; call]?),
+        })?;
+    }
+    Ok(Program {
+        structs: Items::new(alloc),
+        vars: Items::new(alloc),
+        globals: Items::new(alloc),
+        funs,
+        main: FunId(0),
+        slots: Items::new(alloc),
+    })
+}
+
+/// `int f() { f(); } int main() { f(); }`
+#[test]
+fn calls_nest_five_hundred_deep(rt: HostRuntime) -> Result<(), Fail> {
+    let program = calls(rt.alloc(), &[1, 1])?;
+    let done = ax_plain::run(rt.alloc(), &program, &[], 500)?;
+    assert_eq!(rt; done.used, 500);
+    assert_eq!(rt; ended(&done), (None, None, [].as_slice()));
+    Ok(())
+}
+
+/// `while (..) { then i++; }` for `if (..) then`, where `i` is the second variable.
+fn repeated(alloc: Global, statement: &Stmt) -> Result<Stmt, Fail> {
+    match statement {
+        Stmt::If(test, then, None) => {
+            let next = Stmt::Bump(Lval::Var(VarId(1)), true);
+            let turn = vec![in alloc; copy_stmt(alloc, then.get())?, next]?;
+            let turn = Boxed::new(alloc, Stmt::Block(Items::from_vec(turn)))?;
+            Ok(Stmt::While(*test, turn))
+        }
+        _ => Err(Fail::from("no condition")),
+    }
+}
+
+/// Repeats the condition at that place of a function.
+fn repeat(alloc: Global, fun: &mut Fun, at: usize) -> Result<(), Fail> {
+    let statement = fun.body.get(at).ok_or("no statement")?;
+    let turns = repeated(alloc, statement)?;
+    if at >= fun.body.len() {
+        return Err(Fail::from("no statement"));
+    }
+    fun.body.set(at, turns);
+    Ok(())
+}
+
+/// `int main() { int n; int i; int s; scanf("%d", &n); i = 0; s = 0; while (i <= n) { s = s + i; i++; }
+/// printf("%d", s); return 0; }`
+fn sum(alloc: Global) -> Result<Program, Fail> {
+    let mut program = program_of(alloc, SUM)?;
+    let mut main = program.funs.pop().ok_or("no main")?;
+    repeat(alloc, &mut main, 6)?;
+    program.funs.push(main)?;
+    Ok(program)
+}
+
+const SUM: &str =
+    "int main() { int n; int i; int s; scanf(\"%d\", &n); i = 0; s = 0; if (i <= n) s = s + i; printf(\"%d\", s); return 0; }";
+
+/// Both run a program on the input 3 alike: they use up the steps, print these numbers, and return this number or are out of steps.
+fn both_use_up(
+    rt: &impl Abort,
+    alloc: Global,
+    program: &Program,
+    steps: u32,
+    wanted: (Option<i32>, Option<Why>, &[i32]),
+) -> Result<(), AllocError> {
+    let flow = lower(alloc, program)?;
+    let flat = run(alloc, &flow, &[3], steps)?;
+    let plain = ax_plain::run(alloc, program, &[3], steps)?;
+    assert_eq!(rt; (flat.used, plain.used), (steps, steps));
+    assert_eq!(rt; ended(&flat), wanted);
+    assert_eq!(rt; ended(&plain), wanted);
+    assert_eq!(rt; flat.counts.as_slice(), plain.counts.as_slice());
+    Ok(())
+}
+
+#[test]
+fn both_run_alike(rt: HostRuntime) -> Result<(), Fail> {
+    let alloc = rt.alloc();
+    let program = sum(alloc)?;
+    both_use_up(&rt, alloc, &program, 20, (None, None, &[6]))?;
+    both_use_up(&rt, alloc, &program, 21, (Some(0), None, &[6]))?;
+    both_use_up(&rt, alloc, &calls(alloc, &[0])?, 500, (None, None, &[]))?;
+    Ok(())
+}
+
+/// `int main() { main(); }`
+#[test]
+fn a_million_calls_are_open_at_once(rt: HostRuntime) -> Result<(), Fail> {
+    let program = calls(rt.alloc(), &[0])?;
+    let flow = lower(rt.alloc(), &program)?;
+    let done = run(rt.alloc(), &flow, &[], 1_000_000)?;
+    assert_eq!(rt; done.used, 1_000_000);
+    assert_eq!(rt; ended(&done), (None, None, [].as_slice()));
+    Ok(())
+}

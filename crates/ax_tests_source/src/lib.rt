@@ -1,0 +1,13 @@
+//! The tests of reading sources: tokens, trees, programs, and what is written back.
+#![tactic(auto)]
+
+#[cfg(test)]
+mod programs;
+#[cfg(test)]
+mod spans;
+#[cfg(test)]
+mod tokens;
+#[cfg(test)]
+mod trees;
+#[cfg(test)]
+mod written;
