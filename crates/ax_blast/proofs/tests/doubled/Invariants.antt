@@ -1,5 +1,0 @@
-use Rattle.ax_term.specs.Bank.{HasWord}
-use Rattle.ax_blast.proofs.tests.doubled.Given as goal
-
-abbrev pub invariant-loop : goal.invariant-loop
-invariant-loop l = record { top : HasWord l.bank l.top }
