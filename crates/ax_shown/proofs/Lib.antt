@@ -1,0 +1,10 @@
+pub mod Levels
+pub mod Bare
+pub mod Carried
+pub mod Firsts
+pub mod Quiet
+pub mod Operands
+pub mod Names
+pub mod Own
+pub mod Variables
+pub mod Trees

@@ -1,0 +1,4 @@
+pub mod Shifts
+pub mod Stands
+pub mod Copied
+pub mod Swapped
