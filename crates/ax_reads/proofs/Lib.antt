@@ -1,4 +1,10 @@
-pub mod Standing
-mod Values
-mod Slots
-mod Rising
+pub mod InTurn
+pub mod Places
+pub mod Ordered
+pub mod Risen
+pub mod Tokens
+pub mod Numbers
+pub mod Slots
+pub mod Worded
+pub mod Spelled
+pub mod Names

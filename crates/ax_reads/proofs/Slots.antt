@@ -1,94 +1,111 @@
--- The slots of the program that a source stands for.
-use Rattle.std.proofs.Common.{ℕ, List, [], ◌∷◌, length, refl, arith}
-use Rattle.std.specs.List.{All, Contains}
-use Rattle.std.proofs.lemmas.List.Elements.{All-nil, All-cons, All-append, Contains-append_left, Contains-append_right}
+-- The slots of a program that a text spells: their own trees can be written and fit them.
+use Rattle.std.proofs.Common.{◌≡◌, ℕ, zero, suc, ℤ, List, [], ◌∷◌, ◌++◌, Some, refl, sym, subst}
+use Rattle.std.specs.Prelude.{slice_get, Contains}
+use Rattle.std.specs.List.{All}
+use Rattle.std.proofs.lemmas.List.Elements.{All-nil, All-cons, All-head, All-tail, All-weaker, All-map, All-contains_itself}
 use Rattle.ax_prog.specs.declared.Span.{Span}
+use Rattle.ax_prog.specs.declared.Un.{Un}
 use Rattle.ax_prog.specs.declared.Bin.{Bin}
-use Rattle.ax_prog.specs.declared.Expr as ex
+use Rattle.ax_prog.specs.declared.Expr.{Expr}
 use Rattle.ax_prog.specs.declared.Expr.TheVariants as e
 use Rattle.ax_prog.specs.declared.Atom.{Atom}
-use Rattle.ax_prog.specs.declared.Atom.TheVariants as atom
 use Rattle.ax_prog.specs.declared.Atom.TheBlock.{shape-the_row-Atom-0, hidden-the_row-Atom-0, shape-the_row-Expr-1, hidden-the_row-Expr-1}
 use Rattle.ax_prog.specs.declared.Slot.{Slot}
-use Rattle.ax_prog.specs.declared.Stmt as ps
 use Rattle.ax_prog.specs.declared.Program.{Program}
-use Rattle.ax_prog.specs.declared.Var.{Var}
 use Rattle.ax_prog.specs.declared.tokens.Token.{Token}
-use Rattle.ax_prog.specs.Substitution.{FitsSlot, IsAtomOf}
+use Rattle.ax_prog.specs.Substitution.{IsLiteral, IsAtomOf, FitsSlot}
+use Rattle.ax_prog.proofs.Trees.{expr-induction, FitsSlot-Atom, FitsSlot-Un, FitsSlot-Bin, FitsSlot-Cond}
 use Rattle.ax_lex.specs.Bytes.{Text}
 use Rattle.ax_lex.specs.Pieces.{SpellsTokens}
-use Rattle.ax_parse.specs.declared.tree.Expr.{Expr}
-use Rattle.ax_parse.specs.declared.tree.Stmt.{Stmt}
-use Rattle.ax_parse.specs.declared.tree.Tree.{Tree}
-use Rattle.ax_parse.specs.Trees.{span_of}
-use Rattle.ax_parse.specs.Grammar.{SpellsTree}
-use Rattle.ax_names.specs.declared.State.{State}
-use Rattle.ax_names.specs.Rules.{variable, scope_of, with_slot, Means, Becomes, BecomeAll, IsProgramOf}
-use Rattle.ax_reads.specs.Spans.{LiesIn, SlotsLie, SlotsFit}
-use Rattle.ax_reads.proofs.Standing.{stands}
-use Rattle.ax_reads.proofs.Values.{Literals, operand_literals, IsValue, AreValues, if_parts, else_parts, EachHasValues, tree_values}
+use Rattle.ax_grammar.specs.declared.tree.Tree.{Tree}
+use Rattle.ax_grammar.specs.Sources.{SpellsTree}
+use Rattle.ax_typing.specs.Atoms.{atoms_of, atoms_in}
+use Rattle.ax_program.specs.Programs.{IsProgramOf}
+use Rattle.ax_program.proofs.Carried.{program_carries}
+use Rattle.ax_holes.proofs.Bodies.{respelled}
+use Rattle.ax_fills.proofs.Sources.{filled}
+use Rattle.ax_reads.specs.Writable.{IsNumber, IsWritable}
+use Rattle.ax_reads.specs.Spans.{SlotsFit, SlotsWritable}
+use Rattle.ax_reads.proofs.Tokens.{Lexed, lexed_parts, lexed}
+use Rattle.ax_reads.proofs.Numbers.{IsWritable-Un, IsWritable-Bin, IsWritable-Cond, number_writes}
 use denote.Hole.Carrier
 
--- ---- trees of slots
+-- ---- lists
 
-atom_fits : (slot : Slot) (a : Atom) → IsAtomOf slot a → FitsSlot slot (e.Atom a)
+all_got : {A : Type 0} (P : A → Type 0) (xs : List A) → ((i : ℕ) (x : A) → slice_get xs i ≡ Some x → P x) → All P xs
+all_got P [] h = All-nil P
+all_got P (x ∷ xs) h = All-cons P x xs (h zero x refl) (all_got P xs (λ i y is. h (suc i) y is))
+
+all_parts : {A : Type 0} (P : A → Type 0) (xs ys : List A) → All P (xs ++ ys) → All P xs × All P ys
+all_parts P [] ys h = (All-nil P, h)
+all_parts P (x ∷ xs) ys h =
+    let r = all_parts P xs ys (All-tail P x (xs ++ ys) h) in
+    (All-cons P x xs (All-head P x (xs ++ ys) h) r.0, r.1)
+
+all_both : {A : Type 0} (P Q R : A → Type 0) → ((x : A) → P x → Q x → R x) → (xs : List A) → All P xs → All Q xs → All R xs
+all_both P Q R go [] h k = All-nil R
+all_both P Q R go (x ∷ xs) h k = All-cons R x xs (go x (All-head P x xs h) (All-head Q x xs k)) (all_both P Q R go xs (All-tail P x xs h) (All-tail Q x xs k))
+
+-- ---- the atoms of each kind of node
+
+atoms_of-Atom : (a : Atom) → atoms_of (e.Atom a) ≡ a ∷ []
 unfolding shape-the_row-Atom-0 hidden-the_row-Atom-0 shape-the_row-Expr-1 hidden-the_row-Expr-1 Carrier.hidden
-atom_fits slot a h = h
+atoms_of-Atom a = refl
 
-binary_fits : (slot : Slot) (op : Bin) (a b : ex.Expr) → FitsSlot slot a → FitsSlot slot b → FitsSlot slot (e.Bin op a b)
+atoms_of-Un : (op : Un) (x : Expr) → atoms_of (e.Un op x) ≡ atoms_of x
 unfolding shape-the_row-Atom-0 hidden-the_row-Atom-0 shape-the_row-Expr-1 hidden-the_row-Expr-1 Carrier.hidden
-binary_fits slot op a b p q = (p, q)
+atoms_of-Un op x = refl
 
--- what an expression means fits each slot that has all its atoms
-fits : {vars : List Var} {a : Expr} {x : ex.Expr} {xs : List (Atom × Span)} (slot : Slot) → Means vars a x xs → Literals a → ((p : Atom × Span) → Contains xs p → Contains slot.atoms p) → FitsSlot slot x
-fits slot (Means.name {at = at} k is) h has = atom_fits slot (atom.Read (variable k)) (IsAtomOf.own at (has (atom.Read (variable k), at) (0, omega arith, refl)))
-fits slot Means.number h has = h
-fits slot (Means.binary {at = at} {op = op} {a = a} {b = b} {x = x} {y = y} {xs = xs} {ys = ys} d g) h has =
-    let both = operand_literals at op a b h in
-    binary_fits slot op x y (fits slot d both.0 (λ p in'. has p (Contains-append_left xs ys p in'))) (fits slot g both.1 (λ p in'. has p (Contains-append_right xs ys p in')))
+atoms_of-Bin : (op : Bin) (x y : Expr) → atoms_of (e.Bin op x y) ≡ atoms_of x ++ atoms_of y
+unfolding shape-the_row-Atom-0 hidden-the_row-Atom-0 shape-the_row-Expr-1 hidden-the_row-Expr-1 Carrier.hidden
+atoms_of-Bin op x y = refl
 
-record IsGood (len : ℕ) (slot : Slot) : Type 0 where
-  lies : LiesIn len slot.span
-  fitting : FitsSlot slot slot.expr
+atoms_of-Cond : (x y z : Expr) → atoms_of (e.Cond x y z) ≡ (atoms_of x ++ atoms_of y) ++ atoms_of z
+unfolding shape-the_row-Atom-0 hidden-the_row-Atom-0 shape-the_row-Expr-1 hidden-the_row-Expr-1 Carrier.hidden
+atoms_of-Cond x y z = refl
 
--- ---- slots of statements
+-- ---- trees that can be written
 
-module _ (len : ℕ) where
-  one_more : (st : State) (a : Expr) (x : ex.Expr) (xs : List (Atom × Span)) → Means st.vars a x xs → IsValue len a → All (λ slot. IsGood len slot) st.slots → All (λ slot. IsGood len slot) (with_slot st a x xs).slots
-  one_more st a x xs d v h =
-      let P = λ (slot : Slot). IsGood len slot in
-      let slot : Slot = record { span = span_of a; expr = x; scope = scope_of st.vars; atoms = xs } in
-      let good : IsGood len slot = record { lies = v.lies; fitting = fits slot d v.literals (λ p in'. in') } in
-      All-append P st.slots (slot ∷ []) h (All-cons P slot [] good (All-nil P))
+pub slots_writable : (bytes : Text) (tokens : List Token) (tree : Tree) (program : Program) → SpellsTokens bytes tokens → SpellsTree tree tokens → IsProgramOf tree program → SlotsWritable program
+slots_writable bytes tokens tree program s p d = all_got (λ (slot : Slot). IsWritable slot.expr) program.slots (λ i slot at.
+    let f = filled tree program i slot d at in
+    let r = respelled f.old tree tokens f.path p in
+    let all : Lexed (r.front ++ (r.hole ++ r.back)) = subst Lexed r.joined (lexed bytes tokens s) in
+    let hole = (lexed_parts r.hole r.back (lexed_parts r.front (r.hole ++ r.back) all).1).0 in
+    number_writes f.there f.old f.means.0 slot.expr slot.atoms f.means.1 f.means.2 r.spelled hole)
 
-  become_good : {st st2 : State} {x : Stmt} {b : ps.Stmt} → Becomes st x b st2 → AreValues len x → All (λ slot. IsGood len slot) st.slots → All (λ slot. IsGood len slot) st2.slots
-  become_good (Becomes.read k is) v h = h
-  become_good {st = st} (Becomes.print {a = a} x xs d) v h = one_more st a x xs d v h
-  become_good {st = st} (Becomes.assign {a = a} k x xs is d) v h = one_more st a x xs d v h
-  become_good {st = st} (Becomes.return {a = a} x xs d) v h = one_more st a x xs d v h
-  become_good {st = st} (Becomes.lone_if {at = at} {c = c} {a = a} x xs d body) v h =
-      let p = if_parts len at c a v in
-      become_good body p.1 (one_more st c x xs d p.0 h)
-  become_good {st = st} (Becomes.if_else {at = at} {c = c} {a = a} {other = b} x xs d body last) v h =
-      let p = else_parts len at c a b v in
-      become_good last p.2 (become_good body p.1 (one_more st c x xs d p.0 h))
+-- ---- trees that fit
 
-  all_good : {st st2 : State} {xs : List Stmt} {bs : List ps.Stmt} → BecomeAll st xs bs st2 → EachHasValues len xs → All (λ slot. IsGood len slot) st.slots → All (λ slot. IsGood len slot) st2.slots
-  all_good BecomeAll.none v h = h
-  all_good (BecomeAll.decl new others) v h = all_good others v.1 h
-  all_good (BecomeAll.more d others) v h = all_good others v.1 (become_good d v.0 h)
+literal_by : (n : ℤ) → IsNumber n → IsLiteral n
+literal_by n h = subst IsLiteral (sym h.1) tt
 
-  program_good : {tree : Tree} {program : Program} → IsProgramOf tree program → EachHasValues len tree.body → All (λ slot. IsGood len slot) program.slots
-  program_good (IsProgramOf.main st d) v = all_good d v (All-nil (λ (slot : Slot). IsGood len slot))
+-- a tree fits a slot that has its atoms
+abbrev FitsBy : Slot → Expr → Type 0
+FitsBy slot x = IsWritable x → All (IsAtomOf slot) (atoms_of x) → FitsSlot slot x
 
--- ---- programs of texts
+fits_by : (slot : Slot) (x : Expr) → FitsBy slot x
+fits_by slot =
+    expr-induction (FitsBy slot)
+    (λ n w h. literal_by n w)
+    (λ a w h. rw (FitsSlot-Atom slot a) (All-head (IsAtomOf slot) a [] (rw (atoms_of-Atom a) at h)))
+    (λ op a fit w h. rw (FitsSlot-Un slot op a) (fit (rw (IsWritable-Un op a) at w) (rw (atoms_of-Un op a) at h)))
+    (λ op a b fit_a fit_b w h.
+    let v = rw (IsWritable-Bin op a b) at w in
+    let r = all_parts (IsAtomOf slot) (atoms_of a) (atoms_of b) (rw (atoms_of-Bin op a b) at h) in
+    rw (FitsSlot-Bin slot op a b) (fit_a v.0 r.0, fit_b v.1 r.1))
+    (λ c a b fit_c fit_a fit_b w h.
+    let v = rw (IsWritable-Cond c a b) at w in
+    let r = all_parts (IsAtomOf slot) (atoms_of c ++ atoms_of a) (atoms_of b) (rw (atoms_of-Cond c a b) at h) in
+    let q = all_parts (IsAtomOf slot) (atoms_of c) (atoms_of a) r.0 in
+    rw (FitsSlot-Cond slot c a b) (fit_c v.0 q.0, fit_a v.1 q.1, fit_b v.2 r.1))
 
-module _ (bytes : Text) (tokens : List Token) (tree : Tree) (program : Program) where
-  read_good : SpellsTokens bytes tokens → SpellsTree tree tokens → IsProgramOf tree program → All (λ slot. IsGood (length bytes) slot) program.slots
-  read_good s t p = program_good (length bytes) p (tree_values (length bytes) t (stands bytes tokens s))
+-- a slot's own atoms may stand there
+own_atoms : (slot : Slot) → All (IsAtomOf slot) (atoms_in slot.atoms)
+own_atoms slot =
+    All-map (IsAtomOf slot) (λ (x : Atom × Span). x.0) slot.atoms
+    (All-weaker (λ (x : Atom × Span). Contains slot.atoms x) (λ (x : Atom × Span). IsAtomOf slot x.0) (λ x h. IsAtomOf.own x.1 h) slot.atoms (All-contains_itself slot.atoms))
 
-  pub slots_lie : SpellsTokens bytes tokens → SpellsTree tree tokens → IsProgramOf tree program → SlotsLie (length bytes) program
-  slots_lie s t p = λ i d lt. (read_good s t p i d lt).lies
-
-  pub slots_fit : SpellsTokens bytes tokens → SpellsTree tree tokens → IsProgramOf tree program → SlotsFit program
-  slots_fit s t p = λ i d lt. (read_good s t p i d lt).fitting
+pub slots_fit : (bytes : Text) (tokens : List Token) (tree : Tree) (program : Program) → SpellsTokens bytes tokens → SpellsTree tree tokens → IsProgramOf tree program → SlotsFit program
+slots_fit bytes tokens tree program s p d =
+    all_both (λ (slot : Slot). IsWritable slot.expr) (λ (slot : Slot). atoms_in slot.atoms ≡ atoms_of slot.expr) (λ (slot : Slot). FitsSlot slot slot.expr)
+    (λ slot w c. fits_by slot slot.expr w (subst (λ (l : List Atom). All (IsAtomOf slot) l) c (own_atoms slot))) program.slots (slots_writable bytes tokens tree program s p d) (program_carries tree program d)

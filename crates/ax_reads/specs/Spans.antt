@@ -1,9 +1,12 @@
 -- Where the slots of a program stand in its text, and what they hold.
-use Rattle.std.specs.Prelude.{ℕ, ◌≤◌, AllPairs}
+use Rattle.std.specs.Prelude.{◌≡◌, ℕ, ◌≤◌, List, Some, AllPairs}
 use Rattle.std.specs.List.{All}
 use Rattle.ax_prog.specs.declared.Span.{Span}
 use Rattle.ax_prog.specs.declared.Program.{Program}
+use Rattle.ax_prog.specs.declared.tokens.Kind.TheVariants as k
 use Rattle.ax_prog.specs.Substitution.{FitsSlot}
+use Rattle.ax_lex.specs.Tokens.{kind_of}
+use Rattle.ax_reads.specs.Writable.{IsWritable}
 
 -- a stretch of a text of so many bytes
 abbrev pub LiesIn : ℕ → Span → Type 0
@@ -20,3 +23,15 @@ SlotsFit program = All (λ slot. FitsSlot slot slot.expr) program.slots
 -- each slot ends before the next one begins
 abbrev pub SlotsRise : Program → Type 0
 SlotsRise program = AllPairs (λ a b. a.span.to ≤ b.span.from) program.slots
+
+-- each slot's own tree can be written
+abbrev pub SlotsWritable : Program → Type 0
+SlotsWritable program = All (λ slot. IsWritable slot.expr) program.slots
+
+-- the text of a token that is this name (6.4.2.1)
+abbrev pub IsWord : List ℕ → Type 0
+IsWord x = kind_of x ≡ Some (k.Name x)
+
+-- each variable's name is a token
+abbrev pub NamesAreWords : Program → Type 0
+NamesAreWords program = All (λ v. IsWord v.name) program.vars

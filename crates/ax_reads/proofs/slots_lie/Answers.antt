@@ -1,5 +1,5 @@
-use Rattle.ax_reads.proofs.Slots.{slots_lie as law}
+use Rattle.ax_reads.proofs.Risen.{lie}
 use Rattle.ax_reads.proofs.slots_lie.Goals as goal
 
 pub returns : goal.returns
-returns c = λ bytes tokens tree program s t p. law bytes tokens tree program s t p
+returns c = λ bytes tokens tree program s t p. lie bytes tokens tree program s t p
