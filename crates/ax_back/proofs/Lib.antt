@@ -1,20 +1,7 @@
-mod ByKind
-mod Swaps
-mod Exprs
-mod InSlots
-mod Alike
-mod Sizes
-mod Redone
-mod Renewed
-mod Becoming
-mod Names
-mod Declared
-mod Reaching
-mod Shown
-mod Texts
-mod Changing
 mod InTurn
-mod Deciding
-pub mod Layers
-pub mod Writable
-pub mod Law
+mod Standing
+mod Trees
+mod Laws
+mod Moving
+mod Slots
+mod Law

@@ -1,46 +1,17 @@
 -- Changes of a program's slots, and the source in which they are written.
-use Rattle.std.specs.Prelude.{◌≡◌, ℕ, ◌+◌, ◌≤◌, ◌<◌, ℤ, pos, List, [], ◌∷◌, map, length, Option, Some, None}
+use Rattle.std.specs.Prelude.{ℕ, ◌+◌, ◌≤◌, ◌<◌, List, [], ◌∷◌, map, length, Option, Some, None}
 use Rattle.ax_prog.specs.declared.Span.{Span}
-use Rattle.ax_prog.specs.declared.Bin.{Bin}
-use Rattle.ax_prog.specs.declared.Expr.{Expr, Num, Atom', Un', Bin', Cond'}
-use Rattle.ax_prog.specs.declared.Atom.{Atom}
-use Rattle.ax_prog.specs.declared.Atom.TheVariants as atom
-use Rattle.ax_prog.specs.declared.Atom.TheBlock.{more_of-Expr, end_of-Expr, more_of-Atom, end_of-Atom}
-use Rattle.ax_prog.specs.declared.Lval.{Var}
+use Rattle.ax_prog.specs.declared.Expr.{Expr}
 use Rattle.ax_prog.specs.declared.Slot.{Slot}
 use Rattle.ax_prog.specs.declared.SlotId.{SlotId}
 use Rattle.ax_prog.specs.declared.Program.{Program}
-use Rattle.ax_prog.specs.declared.tokens.Kind.{Kind}
 use Rattle.ax_prog.specs.Candidates.{slot_at}
 use Rattle.ax_prog.specs.Substitution.{Fits, substituted}
 use Rattle.ax_prog.specs.Same.{SameProgram}
-use Rattle.ax_parse.specs.Grammar.{binary_of}
 use Rattle.ax_front.specs.Texts.{IsProgramOfText}
 use Rattle.ax_print.specs.Text.{text_of}
 use Rattle.ax_print.specs.Spliced.{spliced, AreParts}
-
--- ---- what may be written
-
--- a number token has this value (6.4.4.1)
-abbrev pub IsNumber : ℤ → Type 0
-IsNumber n = (value : ℕ) × (n ≡ pos value) × (value ≤ 2147483647)
-
--- the value of a variable
-abbrev pub IsVariable : Atom → Type 0
-IsVariable (atom.Read (Var v)) = Unit {0}
-IsVariable _ = ⊥
-
--- a token that the grammar takes as this operator
-abbrev pub IsOperator : Bin → Type 0
-IsOperator op = (kind : Kind) × (binary_of kind ≡ Some op)
-
--- a tree of numbers, variables and operators of the grammar
-abbrev pub IsWritable : Expr → Type 0
-IsWritable (Num n) = IsNumber n
-IsWritable (Atom' s (more_of-Atom a end_of-Atom)) = IsVariable a
-IsWritable (Un' op s row) = ⊥
-IsWritable (Bin' op s (more_of-Expr a end_of-Expr) t (more_of-Expr b end_of-Expr)) = IsOperator op × IsWritable a × IsWritable b
-IsWritable (Cond' s row t row2 u row3) = ⊥
+use Rattle.ax_reads.specs.Writable.{IsWritable}
 
 -- ---- changes
 
@@ -48,13 +19,9 @@ IsWritable (Cond' s row t row2 u row3) = ⊥
 abbrev pub Change : Type 0
 Change = SlotId × Expr
 
--- The grammar spells each slot as an expression but the last one, that of `return 0;`.
-abbrev pub IsFree : Program → SlotId → Type 0
-IsFree program id = id.0 + 1 < length program.slots
-
--- the slot is free, and the tree fits it and can be written
+-- there is such a slot, and the tree fits it and can be written
 abbrev pub IsChange : Program → Change → Type 0
-IsChange program change = IsFree program change.0 × Fits program change.0 change.1 × IsWritable change.1
+IsChange program change = (change.0.0 < length program.slots) × Fits program change.0 change.1 × IsWritable change.1
 
 -- changes of slots whose numbers rise, from this number on
 abbrev pub AreChanges : ℕ → Program → List Change → Type 0

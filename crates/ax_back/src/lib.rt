@@ -1,21 +1,20 @@
 //! Changed sources read back: a source in which the expressions of slots are replaced by printed trees is the text of
 //! the program with these trees.
-//!
-//! A tree can be written where it is made of numbers, variables and the operators of the grammar.
 #![tactic(auto)]
 
 ghost use Rattle.std.specs.Prelude.{◌≡◌, ℕ, List, [], IfOk};
-ghost use Rattle.std.specs.List.{All};
 ghost use Rattle.ax_prog.specs.declared.Program.{Program};
 ghost use Rattle.ax_prog.specs.Same.{SameProgram};
 ghost use Rattle.ax_front.specs.Texts.{IsProgramOfText};
-ghost use Rattle.ax_back.specs.Changes.{Change, IsWritable, AreChanges, replaced, changed, parts_of, ReadsBack};
+ghost use Rattle.ax_back.specs.Changes.{Change, AreChanges, replaced, changed, parts_of, ReadsBack};
 
-mod forms;
-
+use ax_fills::{atoms_are_parts, filled_programs, written_numbers};
+use ax_holes::holes_are_spelled;
 use ax_print::{expr_text, splice};
 use ax_prog::{Expr, Program, SlotId, Span};
-pub use forms::is_writable;
+use ax_reads::{names_are_words, slots_lie, slots_rise};
+use ax_shown::trees_are_shown;
+use ax_swaps::stretches_are_swapped;
 use sqlite_items::Items;
 use std::alloc::{AllocError, Global};
 
@@ -51,6 +50,7 @@ pub fn write_changes(
     ensures text { IfOk result (λ text. text ≡ changed source.now program.now changes.now) }
     ensures back { IfOk result (λ text. (new : Program) × IsProgramOfText text new × SameProgram new (replaced program.now changes.now)) }
 {
+    reads_back();
     let parts = parts(alloc, source, program, changes)?;
     let text = splice(alloc, source, parts.as_slice())?;
     Ok(text)
@@ -59,14 +59,19 @@ pub fn write_changes(
 /// A changed source reads back (a law).
 pub fn reads_back()
     ensures { (source : List ℕ) (program : Program) (changes : List Change) → IsProgramOfText source program → AreChanges 0 program changes → ReadsBack source program changes }
-{}
+{
+    slots_lie();
+    slots_rise();
+    names_are_words();
+    stretches_are_swapped();
+    trees_are_shown();
+    holes_are_spelled();
+    filled_programs();
+    written_numbers();
+    atoms_are_parts();
+}
 
 /// With no change the text is the source (a law).
 pub fn keeps_source()
     ensures { (source : List ℕ) (program : Program) → changed source program [] ≡ source }
-{}
-
-/// Each slot's own tree can be written (a law).
-pub fn slots_are_writable()
-    ensures { (source : List ℕ) (program : Program) → IsProgramOfText source program → All (λ slot. IsWritable slot.expr) program.slots }
 {}
