@@ -1,26 +1,49 @@
-//! From the bytes of a source to its program.
+//! From the bytes of a source to its program, or to the first rule of the language that the source breaks.
 #![tactic(auto)]
 
-ghost use Rattle.std.specs.Prelude.{◌≡◌, ℕ, ◌<◌, ◌^◌, List, length, IfOk, IfErr};
+ghost use Rattle.std.specs.Prelude.{◌≡◌, ℕ, ◌<◌, ◌^◌, List, length, None, IfOk, IfErr};
 ghost use Rattle.ax_prog.specs.declared.Program.{Program};
+ghost use Rattle.ax_nesting.specs.Nesting.{first_too_deep};
+ghost use Rattle.ax_grammar.specs.declared.tree.Tree as parsed;
+ghost use Rattle.ax_grammar.specs.Sources.{SpellsTree};
+ghost use Rattle.ax_calls.specs.Calls.{call_inside};
+ghost use Rattle.ax_large.specs.Wholes.{wholes, first_large};
+ghost use Rattle.ax_program.specs.Programs.{IsProgramOf};
+ghost use Rattle.ax_front.specs.Causes.{IsRefusedParse, IsRefusedTree};
 ghost use Rattle.ax_front.specs.Texts.{IsProgramOfText, KeepsLimits, FaultIs, RefusesRightly};
 
+use ax_grammar::tree::Tree;
 use ax_lex::{LexFault, lex};
-use ax_names::{Denied, resolve};
-use ax_parse::{ParseFault, parse};
 use ax_prog::Program;
-use std::alloc::Global;
+use ax_prog::tokens::Token;
+use ax_resolve::resolve;
+use ax_tree::{ParseFault, parse};
+use ax_typing::TypeFault;
+use std::alloc::{AllocError, Global};
 
 /// Why a source was refused, by the first layer that refuses it.
 #[derive(Clone, Copy, PartialEq, Eq, Debug)]
 pub enum SourceFault {
+    /// Memory was wanting, in whichever layer. It says nothing of the source, and has no place.
     Memory,
-    /// The bytes are no tokens, or too many.
+    /// The bytes are no tokens, or more than 20,000. The fault has the byte.
     Lex(LexFault),
-    /// The tokens nest too deeply.
+    /// The tokens nest too deeply, spell no source, or hold a call inside an expression or an expression that is too large. The
+    /// fault has the byte.
     Parse(ParseFault),
-    /// The source isn't of the first form.
-    NotBuilt,
+    /// The source breaks a rule on names and types. The fault has the rule and the span, in bytes.
+    Type(TypeFault),
+}
+
+impl From<AllocError> for SourceFault {
+    ghost use Rattle.std.specs.Prelude.{◌≡◌};
+    ghost use Rattle.ax_front.specs.declared.SourceFault.TheVariants.{Memory};
+
+    ghost from_gives = { λ _ e. e ≡ Memory };
+
+    fn from(_: AllocError) -> SourceFault {
+        SourceFault::Memory
+    }
 }
 
 impl From<LexFault> for SourceFault {
@@ -50,30 +73,41 @@ impl From<ParseFault> for SourceFault {
         match fault {
             ParseFault::Memory => SourceFault::Memory,
             ParseFault::TooDeep(_) => SourceFault::Parse(fault),
-            ParseFault::NotFirstForm => SourceFault::NotBuilt,
+            ParseFault::Syntax(_) => SourceFault::Parse(fault),
+            ParseFault::CallInside(_) => SourceFault::Parse(fault),
+            ParseFault::ExprTooLarge(_) => SourceFault::Parse(fault),
         }
     }
 }
 
-impl From<Denied> for SourceFault {
-    ghost use Rattle.std.specs.Prelude.{◌≡◌};
-    ghost use Rattle.ax_front.specs.Causes.{from_names};
-
-    ghost from_gives = { λ denied e. e ≡ from_names denied };
-
-    fn from(denied: Denied) -> SourceFault {
-        match denied {
-            Denied::Memory => SourceFault::Memory,
-            Denied::NotBuilt => SourceFault::NotBuilt,
-        }
+// The program of a tree, where it breaks no rule on names and types.
+fn program_of(alloc: Global, tree: &Tree) -> Result<Program, SourceFault>
+    ensures meant { IfOk result (λ program. IsProgramOf tree.now program) }
+    ensures refused { IfErr result (IsRefusedTree tree.now) }
+{
+    match resolve(alloc, tree)? {
+        Ok(program) => Ok(program),
+        Err(fault) => Err(SourceFault::Type(fault)),
     }
 }
 
-/// The program of a source, which has at most 20,000 tokens and nests at most 200 deep.
+// The tree that the tokens spell, within the limits of the language.
+fn tree_of(alloc: Global, tokens: &[Token]) -> Result<Tree, SourceFault>
+    ensures spelled { IfOk result (λ t. SpellsTree t tokens.now) }
+    ensures shallow { IfOk result (λ t. first_too_deep tokens.now ≡ None) }
+    ensures outside { IfOk result (λ t. call_inside t ≡ None) }
+    ensures small { IfOk result (λ t. (s : SpellsTree t tokens.now) → first_large (wholes s) ≡ None) }
+    ensures refused { IfErr result (IsRefusedParse tokens.now) }
+{
+    Ok(parse(alloc, tokens)?)
+}
+
+/// The program of a source, which has at most 20,000 tokens, nests at most 200 deep, and has no expression of more than 400 nodes.
 ///
 /// # Errors
 ///
-/// The first of `Lex`, `Parse` and `NotBuilt` whose layer refuses the source.
+/// The first of `Lex`, `Parse` and `Type` whose layer refuses the source. Of the rules on names and types that are broken, the one
+/// with the least start counts, at one start the first in the list of kinds.
 pub fn read_source(alloc: Global, bytes: &[u8]) -> Result<Program, SourceFault>
     requires { length bytes.now < 2 ^ 32 }
     ensures found { IfOk result (λ program. IsProgramOfText bytes.now program) }
@@ -83,12 +117,16 @@ pub fn read_source(alloc: Global, bytes: &[u8]) -> Result<Program, SourceFault>
     ensures none { IfErr result (RefusesRightly bytes.now) }
 {
     let tokens = lex(alloc, bytes)?;
-    let tree = parse(alloc, tokens.as_slice())?;
-    let program = resolve(alloc, tree)?;
-    Ok(program)
+    let tree = tree_of(alloc, tokens.as_slice())?;
+    program_of(alloc, &tree)
 }
 
 /// A text has at most one program (a law).
 pub fn one_program_of_text()
     ensures { (bytes : List ℕ) (p q : Program) → IsProgramOfText bytes p → IsProgramOfText bytes q → p ≡ q }
+{}
+
+/// A tree that has a program has no call inside an expression (a law).
+pub fn programs_call_outside()
+    ensures { (tree : parsed.Tree) (program : Program) → IsProgramOf tree program → call_inside tree ≡ None }
 {}

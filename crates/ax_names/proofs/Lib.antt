@@ -1,2 +1,0 @@
-mod Layers
-pub mod Exact

@@ -1,8 +1,0 @@
-mod Closing
-mod Tools
-mod ExactExpr
-mod ExactStmt
-mod Exits
-mod Runs
-pub mod ExactTree
-mod ExitsTree

@@ -1,6 +1,0 @@
-pub mod Trees
-pub mod Nesting
-pub mod Terminals
-pub mod Grammar
-pub mod Faults
-pub mod Descent
