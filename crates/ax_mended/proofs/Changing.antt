@@ -1,5 +1,5 @@
 -- The changes of a patch are changes of slots whose numbers rise, and make the patched program.
-use Rattle.std.proofs.Common.{◌≡◌, ℕ, zero, suc, ◌+◌, ◌<◌, ◌≤◌, Bool, true, false, not, cond, List, [], ◌∷◌, get_or, slice_get, slice_set, Option, Some, None, refl, sym, ap, ◌∙◌, subst, arith}
+use Rattle.std.proofs.Common.{◌≡◌, ℕ, zero, suc, ◌+◌, ◌<◌, ◌≤◌, Bool, true, false, not, cond, List, [], ◌∷◌, length, get_or, slice_get, slice_set, Option, Some, None, refl, sym, ap, ◌∙◌, subst, arith}
 use Rattle.std.specs.List.{All, AllPairs, Contains, zip}
 use Rattle.std.proofs.lemmas.Option.{slice_get_within, get_or_from_slice_get}
 use Rattle.std.proofs.lemmas.List.Elements.{All-nil, All-cons, All-head, All-tail, All-contains}
@@ -16,7 +16,8 @@ use Rattle.ax_space.specs.declared.Patch.{Patch}
 use Rattle.ax_space.specs.Chosen.{SlotsFit, with_slot, slots_of, AreChosen, space_of}
 use Rattle.ax_space.specs.Patches.{AreTrees, IsPatch, with_trees, patched}
 use Rattle.ax_space.proofs.Patching.{candidate-slot, reading-fits}
-use Rattle.ax_back.specs.Changes.{IsFree, IsWritable, AreChanges, replaced}
+use Rattle.ax_reads.specs.Writable.{IsWritable}
+use Rattle.ax_back.specs.Changes.{AreChanges, replaced}
 use Rattle.ax_repair.specs.Written.{Change, is_other, is_changed, changes_of}
 
 some-same : {X : Type 0} {x y : X} → ◌≡◌ {A = Option X} (Some x) (Some y) → x ≡ y
@@ -51,19 +52,26 @@ all_fit program sets grow fit (id ∷ ids) (tree ∷ trees) c h =
 
 -- ---- the changes are changes
 
-change-or : (program : Program) (from : ℕ) (id : SlotId) (tree : Expr) (rest : List Change) (b : Bool) → from ≤ id.0 → IsFree program id → Fits program id tree → IsWritable tree → AreChanges (id.0 + 1) program rest → AreChanges from program rest → AreChanges from program (cond b ((id, tree) ∷ rest) rest)
-change-or program from id tree rest true le free fits writable after skip = (le, (free, fits, writable), after)
-change-or program from id tree rest false le free fits writable after skip = skip
+-- the program has such a slot
+abbrev Within : Program → SlotId → Type 0
+Within program id = id.0 < length program.slots
 
-are_changes : (program : Program) (ids : List SlotId) (trees : List Expr) → Rising ids → All (IsFree program) ids → All (FitsThere program) (zip ids trees) → All IsWritable trees → (from : ℕ) → All (λ (id : SlotId). from ≤ id.0) ids → AreChanges from program (changes_of program ids trees)
-are_changes program [] trees order free fits writable from above = tt
-are_changes program (id ∷ ids) [] order free fits writable from above = tt
-are_changes program (id ∷ ids) (tree ∷ trees) order free fits writable from above =
-    let later = are_changes program ids trees (rising-tail id ids order) (All-tail (IsFree program) id ids free) (All-tail (FitsThere program) (id, tree) (zip ids trees) fits) (All-tail IsWritable tree trees writable) in
+all-within : (program : Program) (ids : List SlotId) → All (Contains (candidates_of program)) ids → All (Within program) ids
+all-within program ids c = λ k d h. (let s = candidate-slot program (get_or ids k d) (c k d h) in slice_get_within program.slots (get_or ids k d).0 s.0 s.1)
+
+change-or : (program : Program) (from : ℕ) (id : SlotId) (tree : Expr) (rest : List Change) (b : Bool) → from ≤ id.0 → Within program id → Fits program id tree → IsWritable tree → AreChanges (id.0 + 1) program rest → AreChanges from program rest → AreChanges from program (cond b ((id, tree) ∷ rest) rest)
+change-or program from id tree rest true le within fits writable after skip = (le, (within, fits, writable), after)
+change-or program from id tree rest false le within fits writable after skip = skip
+
+are_changes : (program : Program) (ids : List SlotId) (trees : List Expr) → Rising ids → All (Within program) ids → All (FitsThere program) (zip ids trees) → All IsWritable trees → (from : ℕ) → All (λ (id : SlotId). from ≤ id.0) ids → AreChanges from program (changes_of program ids trees)
+are_changes program [] trees order within fits writable from above = tt
+are_changes program (id ∷ ids) [] order within fits writable from above = tt
+are_changes program (id ∷ ids) (tree ∷ trees) order within fits writable from above =
+    let later = are_changes program ids trees (rising-tail id ids order) (All-tail (Within program) id ids within) (All-tail (FitsThere program) (id, tree) (zip ids trees) fits) (All-tail IsWritable tree trees writable) in
     let next : All (λ (other : SlotId). id.0 + 1 ≤ other.0) ids = λ k d h. (let lt = rising-first id ids order k d h in omega arith) in
     change-or program from id tree (changes_of program ids trees) (is_changed program (id, tree))
     (All-head (λ (id : SlotId). from ≤ id.0) id ids above)
-    (All-head (IsFree program) id ids free)
+    (All-head (Within program) id ids within)
     (All-head (FitsThere program) (id, tree) (zip ids trees) fits)
     (All-head IsWritable tree trees writable)
     (later (id.0 + 1) next)
@@ -121,9 +129,9 @@ replaced-is program (id ∷ ids) (tree ∷ trees) order other same =
 
 -- ---- the whole
 
-pub changes_are : (program : Program) (ids : List SlotId) (sets : Sets) (grow : ℕ) (patch : Patch) → SlotsFit program.slots → AreChosen program ids → All (IsFree program) ids → All IsWritable patch.trees → IsPatch (space_of program ids sets grow) patch → AreChanges 0 program (changes_of program ids patch.trees)
-changes_are program ids sets grow patch fit chosen free writable is =
-    are_changes program ids patch.trees chosen.rising free (all_fit program sets grow fit ids patch.trees chosen.candidates is) writable 0 (λ k d h. omega arith)
+pub changes_are : (program : Program) (ids : List SlotId) (sets : Sets) (grow : ℕ) (patch : Patch) → SlotsFit program.slots → AreChosen program ids → All IsWritable patch.trees → IsPatch (space_of program ids sets grow) patch → AreChanges 0 program (changes_of program ids patch.trees)
+changes_are program ids sets grow patch fit chosen writable is =
+    are_changes program ids patch.trees chosen.rising (all-within program ids chosen.candidates) (all_fit program sets grow fit ids patch.trees chosen.candidates is) writable 0 (λ k d h. omega arith)
 
 pub replaced-patched : (program : Program) (ids : List SlotId) (patch : Patch) → AreChosen program ids → replaced program (changes_of program ids patch.trees) ≡ patched program ids patch
 replaced-patched program ids patch chosen = replaced-is program ids patch.trees chosen.rising program (λ k d h. refl)

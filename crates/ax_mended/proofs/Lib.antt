@@ -1,4 +1,5 @@
 mod Changing
+mod Layers
 mod Passing
 mod Staying
 mod Unchanged

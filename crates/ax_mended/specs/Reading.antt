@@ -14,15 +14,13 @@ use Rattle.ax_space.specs.declared.Patch.{Patch}
 use Rattle.ax_space.specs.Chosen.{AreChosen, space_of}
 use Rattle.ax_space.specs.Patches.{IsPatch, PatchCost, patched}
 use Rattle.ax_least.specs.Least.{PassesWithin, IsRepair}
-use Rattle.ax_back.specs.Changes.{IsFree, IsWritable}
+use Rattle.ax_reads.specs.Writable.{IsWritable}
 use Rattle.ax_repair.specs.Written.{written}
 
--- the chosen expressions of the program of a text, none of them that of `return 0;`, and the trees of a patch that the
--- grammar has
+-- the chosen expressions of the program of a text, and the trees of a patch, which can be written
 pub record IsWritten (source : List ℕ) (program : Program) (ids : List SlotId) (patch : Patch) : Type 0 where
   pub text : IsProgramOfText source program
   pub chosen : AreChosen program ids
-  pub free : All (IsFree program) ids
   pub writable : All IsWritable patch.trees
 
 -- the written source is the text of the patched program, spans aside
@@ -35,15 +33,6 @@ pub record ReadsBack (source : List ℕ) (program : Program) (ids : List SlotId)
 pub record PassesBack (source : List ℕ) (program : Program) (tests : List Test) (bounds : Bounds) (ids : List SlotId) (patch : Patch) : Type 0 where
   pub back : ReadsBack source program ids patch
   pub passes : All (PassesWithin back.new bounds ids) tests
-
--- no sets but `cmp` and `consts`
-pub record AreComparisons (sets : Sets) : Type 0 where
-  pub logic : sets.logic ≡ false
-  pub arith : sets.arith ≡ false
-  pub mul : sets.mul ≡ false
-  pub bits : sets.bits ≡ false
-  pub vars : sets.vars ≡ false
-  pub guard : sets.guard ≡ false
 
 -- ---- laws
 
@@ -60,11 +49,11 @@ RepairedPasses =
     IsWritten source program ids patch → IsRepair program tests bounds (space_of program ids sets grow) patch →
     PassesBack source program tests bounds ids patch
 
--- with comparisons alone the grammar has the trees of every patch
-abbrev pub ComparisonsAreWritable : Type 0
-ComparisonsAreWritable =
+-- the trees of every patch can be written, guards aside
+abbrev pub PatchesAreWritable : Type 0
+PatchesAreWritable =
     (source : List ℕ) (program : Program) (ids : List SlotId) (sets : Sets) (grow : ℕ) (patch : Patch) →
-    IsProgramOfText source program → AreChosen program ids → AreComparisons sets → IsPatch (space_of program ids sets grow) patch →
+    IsProgramOfText source program → AreChosen program ids → sets.guard ≡ false → IsPatch (space_of program ids sets grow) patch →
     All IsWritable patch.trees
 
 -- exactly the old tree has no changed node

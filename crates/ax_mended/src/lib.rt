@@ -2,11 +2,11 @@
 //! test, and the given source where the repair costs nothing.
 #![tactic(auto)]
 
-ghost use Rattle.ax_mended.specs.Reading.{WrittenReadsBack, RepairedPasses, ComparisonsAreWritable, UnchangedIsSame, StaysAtCost0};
+ghost use Rattle.ax_mended.specs.Reading.{WrittenReadsBack, RepairedPasses, PatchesAreWritable, UnchangedIsSame, StaysAtCost0};
 
 use ax_alike::same_runs;
-use ax_back::{reads_back, slots_are_writable};
-use ax_reads::slots_fit;
+use ax_back::reads_back;
+use ax_reads::{slots_are_writable, slots_fit};
 use ax_repair::own_trees_stay;
 
 /// A source in which a patch is written reads back as the patched program (a law).
@@ -25,9 +25,9 @@ pub fn repaired_passes()
     same_runs();
 }
 
-/// With comparisons alone, each tree of a patch can be written (a law).
-pub fn comparisons_are_writable()
-    ensures { ComparisonsAreWritable }
+/// Each tree of a patch can be written, guards aside (a law).
+pub fn patches_are_writable()
+    ensures { PatchesAreWritable }
 {
     slots_are_writable();
 }
