@@ -22,8 +22,7 @@ use Rattle.ax_least.specs.Least.{IsRepair}
 use Rattle.ax_repair.specs.Outcomes.{IsRepaired}
 use Rattle.ax_repair.specs.Written.{is_changed, written}
 use Rattle.ax_repair.specs.declared.Repaired.{Repaired}
-use Rattle.ax_back.specs.Changes.{IsFree}
-use Rattle.ax_mended.specs.Reading.{AreComparisons, ComparisonsAreWritable, PassesBack, RepairedPasses, StaysAtCost0}
+use Rattle.ax_mended.specs.Reading.{PatchesAreWritable, PassesBack, RepairedPasses, StaysAtCost0}
 use Rattle.ax_coverage.specs.Handed.{Handed}
 use Rattle.ax_outside.specs.Seen.{Seen}
 use Rattle.ax_words.specs.declared.order.RepairOrder.{RepairOrder}
@@ -31,7 +30,7 @@ use Rattle.ax_top.specs.declared.answer.Answer.{Answer}
 use Rattle.ax_top.specs.declared.built.Picked.{Picked}
 use Rattle.ax_top.specs.declared.files.Stop.{Stop}
 use Rattle.ax_top.specs.declared.files.Stop.TheVariants as stop
-use Rattle.ax_top.specs.Built.{IsPicked, are_comparisons, built_slot, candidate_at, chosen_of, has_few, is_free, only, small_slot}
+use Rattle.ax_top.specs.Built.{IsPicked, are_comparisons, built_slot, candidate_at, chosen_of, has_few, only, small_slot}
 use Rattle.ax_top.specs.Choices.{ChoosesNumbers}
 use Rattle.ax_top.specs.Orders.{RepairIsFine}
 use Rattle.ax_top.specs.Repairs.{Answered, IsAnswer, IsMended, RepairEnds, Searched, memory, repaired_report, unbuilt}
@@ -62,24 +61,15 @@ not-true : (b : Bool) → not b ≡ true → b ≡ false
 not-true true h = absurd (cc)
 not-true false h = refl
 
-is-below : (a b : ℕ) → nat_lt a b ≡ true → a < b
-is-below a b h = grind arith
-
-abbrev IsOpen : Program → SlotId → Type 0
-IsOpen program id = is_free program id ≡ true
-
-from-small : (program : Program) (found : Option SlotId) (id : SlotId) → option_and_then (small_slot program) found ≡ Some id
-    → (found ≡ Some id) × IsOpen program id
+from-small : (program : Program) (found : Option SlotId) (id : SlotId) → option_and_then (small_slot program) found ≡ Some id → found ≡ Some id
 from-small program None id h = absurd (cc)
 from-small program (Some x) id h =
-    let is = if-some (is_free program x && has_few (tree_at program x)) x id h in
-    (ap (λ (y : SlotId). Some y) is.1, subst (IsOpen program) is.1 (both (is_free program x) (has_few (tree_at program x)) is.0).0)
+    ap (λ (y : SlotId). Some y) (if-some (has_few (tree_at program x)) x id h).1
 
 -- the sets of an order that is built, and what is known of its slot
 record Opens (program : Program) (sets : Bool) (number : ℕ) (id : SlotId) : Type 0 where
   pub comparisons : sets ≡ true
   pub candidate : candidate_at program number ≡ Some id
-  pub free : IsOpen program id
 
 by-sets : (program : Program) (b : Bool) (numbers : List ℕ) (number : ℕ) (id : SlotId) → numbers ≡ number ∷ []
     → (if b then option_and_then (λ n. option_and_then (small_slot program) (candidate_at program n)) (only numbers) else None) ≡ Some id
@@ -89,7 +79,7 @@ by-sets program true [] number id e h = absurd (cc)
 by-sets program true (n ∷ []) number id e h =
     let same : n ≡ number = cc in
     let small = from-small program (candidate_at program n) id h in
-    record { comparisons = refl; candidate = subst (λ k. candidate_at program k ≡ Some id) same small.0; free = small.1 }
+    record { comparisons = refl; candidate = subst (λ k. candidate_at program k ≡ Some id) same small }
 by-sets program true (n ∷ m ∷ ns) number id e h = absurd (cc)
 
 opens : (program : Program) (sets : Sets) (picked : Picked) → IsPicked program sets picked
@@ -112,8 +102,8 @@ picked-chosen program sets picked is = record {
   few = omega arith;
 }
 
-comparisons-alone : (s : Sets) → are_comparisons s ≡ true → AreComparisons s
-comparisons-alone s h =
+no-guard : (s : Sets) → are_comparisons s ≡ true → s.guard ≡ false
+no-guard s h =
     let a = both s.cmp (not s.logic && (not s.arith && (not s.mul && (not s.bits && (not s.vars && (not s.consts && not s.guard)))))) h in
     let b = both (not s.logic) (not s.arith && (not s.mul && (not s.bits && (not s.vars && (not s.consts && not s.guard))))) a.1 in
     let d = both (not s.arith) (not s.mul && (not s.bits && (not s.vars && (not s.consts && not s.guard)))) b.1 in
@@ -121,17 +111,10 @@ comparisons-alone s h =
     let f = both (not s.bits) (not s.vars && (not s.consts && not s.guard)) e.1 in
     let g = both (not s.vars) (not s.consts && not s.guard) f.1 in
     let k = both (not s.consts) (not s.guard) g.1 in
-    record {
-      logic = not-true s.logic b.0;
-      arith = not-true s.arith d.0;
-      mul = not-true s.mul e.0;
-      bits = not-true s.bits f.0;
-      vars = not-true s.vars g.0;
-      guard = not-true s.guard k.1;
-    }
+    not-true s.guard k.1
 
 -- what is written for a repair reads back
-pub passes-back : ComparisonsAreWritable → RepairedPasses → (source : List ℕ) (program : Program) (tests : List Test) (o : RepairOrder) (picked : Picked) (patch : Patch)
+pub passes-back : PatchesAreWritable → RepairedPasses → (source : List ℕ) (program : Program) (tests : List Test) (o : RepairOrder) (picked : Picked) (patch : Patch)
     → IsProgramOfText source program → IsPicked program o.sets picked
     → IsRepair program tests o.bounds (space_of program (picked.slot ∷ []) o.sets o.bounds.grow) patch
     → PassesBack source program tests o.bounds (picked.slot ∷ []) patch
@@ -142,8 +125,7 @@ passes-back writable law source program tests o picked patch read is repair =
     (record {
       text = read;
       chosen = chosen;
-      free = all-one (IsFree program) picked.slot (is-below (picked.slot.0 + 1) (length program.slots) open'.free);
-      writable = writable source program (picked.slot ∷ []) o.sets o.bounds.grow patch read chosen (comparisons-alone o.sets open'.comparisons) repair.in_space;
+      writable = writable source program (picked.slot ∷ []) o.sets o.bounds.grow patch read chosen (no-guard o.sets open'.comparisons) repair.in_space;
     })
     repair
 
@@ -156,7 +138,7 @@ stays law source program o picked patch cost is costs free =
     (subst (λ (n : ℕ). PatchCost (space_of program (picked.slot ∷ []) o.sets o.bounds.grow) patch n) free costs)
 
 -- from the outcome of the search to the answer
-pub mended : ComparisonsAreWritable → RepairedPasses → StaysAtCost0 → (source : List ℕ) (program : Program) (tests : List Test) (o : RepairOrder) (picked : Picked) (it : Repaired) (report : List ℕ)
+pub mended : PatchesAreWritable → RepairedPasses → StaysAtCost0 → (source : List ℕ) (program : Program) (tests : List Test) (o : RepairOrder) (picked : Picked) (it : Repaired) (report : List ℕ)
     → IsProgramOfText source program → IsPicked program o.sets picked
     → IsRepaired program source tests o.bounds (space_of program (picked.slot ∷ []) o.sets o.bounds.grow) it
     → report ≡ repaired_report source program (picked.number ∷ []) (picked.slot ∷ []) (it.patch).trees it.cost

@@ -2,7 +2,6 @@
 use Rattle.std.proofs.Common.{◌≡◌, ◌≤◌, ℕ, List, length, Some, None, subst, arith}
 use Rattle.std.specs.Prelude.{Err}
 use Rattle.ax_outside.specs.Seen.{NoLess, OnKept, Rose, Same, Seen, Told}
-use Rattle.ax_front.specs.declared.SourceFault.TheVariants as front
 use Rattle.ax_prog.specs.declared.Program.{Program}
 use Rattle.ax_prog.specs.declared.Suite.{Suite}
 use Rattle.ax_top.specs.declared.files.File.{File}
@@ -28,7 +27,7 @@ by_stop old new name bytes (stop.TooLong which) read judged = absurd judged
 by_stop old new name bytes (stop.Source fault) read judged = (judged.0, on_kept _ _ (λ source. HasFault source fault) read judged.1)
 by_stop old new name bytes (stop.Suite fault) read judged = absurd judged
 by_stop old new name bytes (stop.NoCandidate picked count) read judged = absurd judged
-by_stop old new name bytes stop.NotBuilt read judged = on_kept _ _ (λ source. HasFault source front.NotBuilt) read judged
+by_stop old new name bytes stop.NotBuilt read judged = absurd judged
 
 -- the bytes were lent as a text that is theirs
 pub stops_at_source : (old new : Seen) (name text bytes : List ℕ) (why : Stop) → text ≡ bytes → WasRead (old.kept name) file.Source bytes

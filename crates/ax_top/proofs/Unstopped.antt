@@ -90,9 +90,9 @@ has-ranker rankers program tests steps (Top count formula) (Top number name) num
 
 unfaulted : (bytes : List ℕ) (program : Program) (fault : SourceFault) → Refuses fault → HasFault bytes fault → KeepsLimits bytes → IsProgramOfText bytes program → ⊥
 unfaulted bytes program front.Memory r h keeps is = r
-unfaulted bytes program front.NotBuilt r h keeps is = r
 unfaulted bytes program (front.Lex fault) r h keeps is = h.none keeps program is
 unfaulted bytes program (front.Parse fault) r h keeps is = h.none keeps program is
+unfaulted bytes program (front.«Type» fault) r h keeps is = h.none keeps program is
 
 not-long : (n most : ℕ) → n ≤ most → most < n → ⊥
 not-long n most short long = omega arith
@@ -122,9 +122,7 @@ module _ (law : OneCandidateOrder) (old new : Seen) (rankers : List Handed) (wor
   by-source (stop.Source fault) h =
       let here = subst (λ (t : Told). OnKept t (λ source. (length source ≤ limit_of file.Source) × HasFault source fault)) told-source h.1 in
       absurd (unfaulted asked.source program fault h.0 here.1 asked.limits asked.spelled)
-  by-source stop.NotBuilt h =
-      let here = subst (λ (t : Told). OnKept t (λ source. (length source ≤ limit_of file.Source) × HasFault source front.NotBuilt)) told-source h in
-      absurd (here.1.none asked.limits program asked.spelled)
+  by-source stop.NotBuilt h = absurd h
   by-source (stop.Suite fault) h = absurd h
   by-source stop.NoRanker h = absurd h
   by-source (stop.NoCandidate picked count) h = absurd h

@@ -1,5 +1,5 @@
 -- Which orders to repair are built, and the expressions that they choose.
-use Rattle.std.specs.Prelude.{◌≡◌, ℕ, ◌+◌, ◌-◌, nat_le, nat_lt, length, Bool, false, ◌&&◌, not, if◌then◌else◌, List, [], ◌∷◌, Option, None, Some, option_map, option_and_then, slice_get}
+use Rattle.std.specs.Prelude.{◌≡◌, ℕ, ◌+◌, ◌-◌, nat_le, Bool, false, ◌&&◌, not, if◌then◌else◌, List, [], ◌∷◌, Option, None, Some, option_map, option_and_then, slice_get}
 use Rattle.ax_prog.specs.declared.Expr.{Expr, Num, Atom', Un', Bin', Cond'}
 use Rattle.ax_prog.specs.declared.Atom.TheBlock.{more_of-Expr, end_of-Expr}
 use Rattle.ax_prog.specs.declared.Sets.{Sets}
@@ -22,13 +22,9 @@ abbrev pub has_few : Option Expr → Bool
 has_few None = false
 has_few (Some tree) = nat_le (binaries tree) 3
 
--- not the last slot: that is the one of the `return 0;` with which a source of the first form ends
-abbrev pub is_free : Program → SlotId → Bool
-is_free program id = nat_lt (id.0 + 1) (length program.slots)
-
--- the slot, where it isn't the last one and its tree has at most three binary operators
+-- the slot, where its tree has at most three binary operators
 abbrev pub small_slot : Program → SlotId → Option SlotId
-small_slot program id = if is_free program id && has_few (tree_at program id) then Some id else None
+small_slot program id = if has_few (tree_at program id) then Some id else None
 
 -- the slot of the candidate of that number, from 1
 abbrev pub candidate_at : Program → ℕ → Option SlotId
@@ -46,8 +42,8 @@ are_comparisons s =
     s.cmp && (not s.logic && (not s.arith && (not s.mul && (not s.bits && (not s.vars && (not s.consts && not s.guard))))))
 
 -- The slot that is to be changed, where an order is built that takes these sets and chooses these numbers: it takes the
--- comparisons alone and chooses one number, that of a candidate that isn't the last slot's and has at most three binary
--- operators. Of any other order there is none.
+-- comparisons alone and chooses one number, that of a candidate that has at most three binary operators. Of any other order
+-- there is none.
 abbrev pub built_slot : Program → Sets → List ℕ → Option SlotId
 built_slot program sets numbers =
     if are_comparisons sets

@@ -16,7 +16,8 @@ use Rattle.ax_top.specs.Ends.{Stops}
 use Rattle.ax_top.specs.Proving.{DoesProve}
 use Rattle.ax_top.specs.Repairs.{Answers}
 use Rattle.ax_top.specs.Telling.{Tells}
-use Rattle.ax_top.specs.Reports.{Finishes, stop_report, stop_status, words_report}
+use Rattle.ax_refusals.specs.Texts.{words_report}
+use Rattle.ax_top.specs.Reports.{Finishes, stop_report, stop_status}
 
 -- What the program does, over these rankers: want of memory, after which nothing is printed; or the words are refused,
 -- and the report says why; or they are an order, which something stops, and the report says what; or they are an order to

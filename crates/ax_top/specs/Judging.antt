@@ -22,17 +22,15 @@ pub record HasFault (source : List ℕ) (fault : SourceFault) : Type 0 where
   pub cause : FaultIs source fault
   pub none : RefusesRightly source fault
 
--- a fault that refuses a source: want of memory doesn't, nor what isn't built
+-- a fault that refuses a source: want of memory doesn't
 abbrev pub Refuses : SourceFault → Type 0
 Refuses front.Memory = ⊥
-Refuses front.NotBuilt = ⊥
 Refuses other = Unit {0}
 
 abbrev pub SourceJudged : List ℕ → Result Program Stop → Type 0
 SourceJudged source (Ok program) = IsProgramOfText source program × KeepsLimits source
 SourceJudged source (Err stop.Memory) = Unit {0}
 SourceJudged source (Err (stop.Source fault)) = Refuses fault × HasFault source fault
-SourceJudged source (Err stop.NotBuilt) = HasFault source front.NotBuilt
 SourceJudged source (Err other) = ⊥
 
 abbrev pub SuiteJudged : List ℕ → Result Suite Stop → Type 0
@@ -62,7 +60,6 @@ StopsAtSource old new name stop.Memory = Unit {0}
 StopsAtSource old new name (stop.ReadFailed file.Source) = Rose (old.reads name) (new.reads name)
 StopsAtSource old new name (stop.TooLong file.Source) = IsLong (old.kept name) file.Source
 StopsAtSource old new name (stop.Source fault) = Refuses fault × OnKept (old.kept name) (λ source. (length source ≤ limit_of file.Source) × HasFault source fault)
-StopsAtSource old new name stop.NotBuilt = OnKept (old.kept name) (λ source. (length source ≤ limit_of file.Source) × HasFault source front.NotBuilt)
 StopsAtSource old new name other = ⊥
 
 -- what stops it at its tests

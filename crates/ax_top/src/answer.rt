@@ -12,7 +12,7 @@ use crate::built::{Picked, picked_of};
 use crate::choosing::chosen_numbers;
 use crate::files::Stop;
 use crate::telling::Told;
-use ax_mended::{comparisons_are_writable, repaired_passes, stays_at_cost_0};
+use ax_mended::{patches_are_writable, repaired_passes, stays_at_cost_0};
 use ax_print::expr_text;
 use ax_prog::same::same_expr;
 use ax_prog::{Expr, Program, SlotId, Suite};
@@ -132,7 +132,7 @@ fn answer_to(
     ensures { IfOk result (IsAnswer order.now source.now program.now suite.now.tests (picked.number ∷ []) (picked.slot ∷ [])) }
 {
     // what is written reads back, and is the source where nothing changes
-    comparisons_are_writable();
+    patches_are_writable();
     repaired_passes();
     stays_at_cost_0();
     let chosen = [picked.slot];

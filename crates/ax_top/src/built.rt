@@ -38,14 +38,14 @@ fn has_few_binaries(tree: &Expr) -> bool
     binary_count(tree) <= 3
 }
 
-// The slot, where it isn't the last one and its tree has at most three binary operators.
+// The slot, where its tree has at most three binary operators.
 fn small(program: &Program, id: SlotId) -> Option<SlotId>
     ensures { result ≡ small_slot program.now id }
 {
     match program.slots.get(id.0 as usize) {
         None => None,
         Some(slot) => {
-            if (id.0 as usize) + 1 < program.slots.len() && has_few_binaries(&slot.expr) {
+            if has_few_binaries(&slot.expr) {
                 Some(id)
             } else {
                 None
@@ -110,7 +110,7 @@ pub struct Picked {
 }
 
 /// What is chosen, where an order is built that takes these sets and chooses these numbers: one candidate of at most
-/// three binary operators, other than that of the `return 0;` at the end, and comparisons alone.
+/// three binary operators, and comparisons alone.
 pub fn picked_of(
     alloc: Global,
     sets: &Sets,

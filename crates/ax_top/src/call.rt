@@ -10,10 +10,11 @@ use crate::delivery::give;
 use crate::files::Stop;
 use crate::orders::result_of;
 use crate::proving::prove;
-use crate::report::{print_refusal, status_of, stop_text, words_text};
+use crate::report::{print_refusal, status_of, stop_text};
 use ax_coverage::one_candidate_order;
 use ax_outside::Shelf;
 use ax_rank::Ranker;
+use ax_refusals::words_text;
 use ax_words::{Order, WordFault, read_words};
 use std::alloc::Global;
 

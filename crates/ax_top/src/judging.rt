@@ -32,7 +32,6 @@ fn judge_source(alloc: Global, source: &[u8]) -> Result<Program, Stop>
     match read_source(alloc, source) {
         Ok(program) => Ok(program),
         Err(SourceFault::Memory) => Err(Stop::Memory),
-        Err(SourceFault::NotBuilt) => Err(Stop::NotBuilt),
         Err(fault) => Err(Stop::Source(fault)),
     }
 }

@@ -17,8 +17,6 @@ mod proving;
 mod rankers;
 mod report;
 mod telling;
-#[cfg(test)]
-mod tests;
 
 pub use call::angelix;
 pub use files::{File, Stop};

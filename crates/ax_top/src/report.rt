@@ -1,87 +1,13 @@
 //! The texts of the reports, and their print.
 ghost use Rattle.std.specs.Prelude.{◌≡◌, ◌++◌, IfOk, codes, string_bytes};
 ghost use Rattle.std.specs.Fmt.{decimal};
-ghost use Rattle.ax_top.specs.Reports.{Finishes, candidate_report, file_report, lex_report, name_of, one_of, option_report, refused_at, source_report, stop_report, stop_status, suite_report, test_report, words_report};
+ghost use Rattle.ax_top.specs.Reports.{Finishes, candidate_report, file_report, name_of, one_of, stop_report, stop_status};
 
 use crate::files::{File, Stop};
-use ax_front::SourceFault;
-use ax_lex::LexFault;
 use ax_outside::Shelf;
-use ax_parse::ParseFault;
-use ax_suite::SuiteFault;
-use ax_words::{Order, WordFault};
+use ax_refusals::{source_text, suite_text};
+use ax_words::Order;
 use std::alloc::{AllocError, Global};
-
-fn refused(alloc: Global, what: &str, at: usize) -> Result<String, AllocError>
-    ensures { IfOk result (λ s. string_bytes s ≡ refused_at what.now at) }
-{
-    format!(in alloc; "source refused: {what} at {at}\n")
-}
-
-fn lex_text(alloc: Global, fault: LexFault) -> Result<String, AllocError>
-    ensures { IfOk result (λ s. string_bytes s ≡ lex_report fault) }
-{
-    match fault {
-        LexFault::Memory => Ok(String::new(alloc)),
-        LexFault::BadByte(at) => refused(alloc, "bad byte", at),
-        LexFault::OpenComment(at) => refused(alloc, "open comment", at),
-        LexFault::NumberTooLarge(at) => refused(alloc, "number too large", at),
-        LexFault::TooManyTokens(at) => refused(alloc, "too many tokens", at),
-    }
-}
-
-fn source_text(alloc: Global, fault: SourceFault) -> Result<String, AllocError>
-    ensures { IfOk result (λ s. string_bytes s ≡ source_report fault) }
-{
-    match fault {
-        SourceFault::Memory => Ok(String::new(alloc)),
-        SourceFault::Lex(fault) => lex_text(alloc, fault),
-        SourceFault::Parse(ParseFault::TooDeep(at)) => refused(alloc, "too deep", at),
-        SourceFault::Parse(_) => Ok(String::new(alloc)),
-        SourceFault::NotBuilt => Ok(String::new(alloc)),
-    }
-}
-
-fn in_test(alloc: Global, what: &str, test: u32) -> Result<String, AllocError>
-    ensures { IfOk result (λ s. string_bytes s ≡ test_report what.now test) }
-{
-    format!(in alloc; "suite refused: {what} in test {test}\n")
-}
-
-fn suite_text(alloc: Global, fault: SuiteFault) -> Result<String, AllocError>
-    ensures { IfOk result (λ s. string_bytes s ≡ suite_report fault) }
-{
-    match fault {
-        SuiteFault::Memory => Ok(String::new(alloc)),
-        SuiteFault::NotJson => String::from_str(alloc, "suite refused: not json\n"),
-        SuiteFault::BadShape(test) => in_test(alloc, "bad shape", test),
-        SuiteFault::TooMany(test) => in_test(alloc, "too many", test),
-        SuiteFault::OutOfInt(test) => in_test(alloc, "out of int", test),
-    }
-}
-
-fn of_option(alloc: Global, what: &str, option: &str) -> Result<String, AllocError>
-    ensures { IfOk result (λ s. string_bytes s ≡ option_report what.now option.now) }
-{
-    format!(in alloc; "words refused: {what} {option}\n")
-}
-
-/// Why the words give no order.
-pub fn words_text(alloc: Global, fault: &WordFault) -> Result<String, AllocError>
-    ensures { IfOk result (λ s. string_bytes s ≡ words_report fault.now) }
-{
-    match fault {
-        WordFault::Memory => Ok(String::new(alloc)),
-        WordFault::NoCommand => String::from_str(alloc, "words refused: no command\n"),
-        WordFault::UnknownCommand => String::from_str(alloc, "words refused: unknown command\n"),
-        WordFault::Refused => String::from_str(alloc, "words refused: arguments\n"),
-        WordFault::BadNumber(option) => of_option(alloc, "bad number", option.as_str()),
-        WordFault::OutOfRange(option) => of_option(alloc, "out of range", option.as_str()),
-        WordFault::BadList(option) => of_option(alloc, "bad list", option.as_str()),
-        WordFault::Both => String::from_str(alloc, "words refused: pick beside top or formula\n"),
-        WordFault::SameName => String::from_str(alloc, "words refused: same name\n"),
-    }
-}
 
 /// What is wrong with a file, and its name.
 pub fn of_file(alloc: Global, what: &str, name: &str) -> Result<String, AllocError>

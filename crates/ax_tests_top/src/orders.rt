@@ -1,8 +1,8 @@
 ghost use Rattle.std.specs.Prelude.{codes};
 
-use crate::angelix;
 use ax_outside::{Endless, MemShelf, Shelf};
 use ax_rank::{Ranker, Score, SeenRun};
+use ax_top::angelix;
 use sqlite_items::Items;
 use std::alloc::{AllocError, Global};
 use std::test::Fail;
@@ -143,7 +143,7 @@ fn words_are_refused(rt: HostRuntime) -> Result<(), Fail> {
     Ok(())
 }
 
-const SOURCES: [Row; 7] = [
+const SOURCES: [Row; 11] = [
     ("repair m t o c", SOURCE, TESTS, 6, "read failed: m\n"),
     ("rank m t", SOURCE, TESTS, 6, "read failed: m\n"),
     (
@@ -169,12 +169,40 @@ const SOURCES: [Row; 7] = [
     ),
     (
         "repair s m o c",
+        "int main() { int x; int *p; p = &x; *p++; return 0; }",
+        TESTS,
+        3,
+        "source refused: syntax at 38\n",
+    ),
+    (
+        "rank s m",
+        "int f(int x) { return x; }\nint main() { int y; y = f(1) + 1; return y; }",
+        TESTS,
+        3,
+        "source refused: call inside an expression at 51\n",
+    ),
+    (
+        "repair s m o c",
+        "int main() { return y; }",
+        TESTS,
+        3,
+        "source refused: unknown name at 20\n",
+    ),
+    (
+        "run s m",
+        "int main() { int x; int x; return 0; }",
+        TESTS,
+        3,
+        "source refused: redeclared at 24\n",
+    ),
+    ("run s m", "", TESTS, 3, "source refused: no main at 0\n"),
+    (
+        "run s m",
         "int main() { return 1; }",
         TESTS,
-        11,
-        "not built\n",
+        6,
+        "read failed: m\n",
     ),
-    ("run s m", "", TESTS, 11, "not built\n"),
 ];
 
 #[test]
@@ -236,8 +264,8 @@ fn suites_and_numbers_are_judged(rt: HostRuntime) -> Result<(), Fail> {
     Ok(())
 }
 
-// Ways in which an order isn't built: another set, two numbers, the last expression, and four binary operators.
-const UNBUILT: [Row; 6] = [
+// Ways in which an order isn't built: another set, two numbers, and four binary operators.
+const UNBUILT: [Row; 5] = [
     (
         "repair s t o c --top 2 --with cmp",
         SOURCE,
@@ -257,13 +285,6 @@ const UNBUILT: [Row; 6] = [
         "repair s t o c --pick 1,2 --with cmp",
         SOURCE,
         TESTS,
-        11,
-        "not built\n",
-    ),
-    (
-        "repair s t o c --pick 4 --with cmp",
-        SOURCE,
-        "[{}]",
         11,
         "not built\n",
     ),
