@@ -6,6 +6,8 @@ use Rattle.std.proofs.lemmas.List.{take-take, get_or-take}
 use Rattle.ax_proof.specs.Literal.{Literal}
 use Rattle.ax_proof.specs.Trail.{IsConsistent, IsSettled}
 use Rattle.ax_watch.specs.Watch.{WatchState, IsSound}
+use Rattle.ax_renew.specs.Core.{IsCore}
+use Rattle.ax_renew.proofs.Cores.{core_along, core_append}
 use Rattle.ax_sat.specs.Analysis.{Explains}
 use Rattle.ax_sat.specs.Levels.{Stands, Asks, IsDenied}
 use Rattle.ax_sat.specs.Search.{IsLesson, Learns, Logs}
@@ -14,6 +16,7 @@ use Rattle.ax_sat.proofs.Decisions.{stands_back, stands_with, asks_after}
 use Rattle.ax_sat.proofs.Denying.{line_settled}
 use Rattle.ax_sat.proofs.Marking.{explained_lesson}
 use Rattle.ax_sat.proofs.Logging.{logs_more}
+use Rattle.ax_sat.proofs.Cored.{lesson_of_core}
 
 -- the decisions that are left, with the line behind the clauses
 module _ (cs : List (List Literal)) (trail : List Literal) (reasons starts : List ℕ) (line : List Literal) (s : Stands cs trail reasons starts) (ok : IsConsistent trail) (once : AllPairs (λ (a b : Literal). a.var ≢ b.var) trail) (x : Explains cs trail (get_or starts (length starts - 1) 0) line) (left : ℕ) (low : left < length starts)
@@ -54,10 +57,13 @@ module _ (w v : WatchState) (assumed : List Literal) (levels levels_left : Level
   pub learns_asks : Asks assumed v.trail levels_left.starts.items levels_left.roots levels_left.asked
   learns_asks = asks_after w.clauses assumed w.trail w.reasons levels.starts.items levels.roots levels.asked l.left v.trail levels_left.starts.items levels_left.roots levels_left.asked s a l.low l.trail l.goes_back.starts l.goes_back.roots
 
-  pub learns_logs : (cs : List (List Literal)) (vars : ℕ) (old : List (List Literal)) (count : ℕ) → w.clauses ≡ cs ++ lines → w.vars ≡ vars → Logs cs assumed vars old lines count → Logs cs assumed vars old lines_now (count + 1)
-  learns_logs cs vars old count e f log =
-      let lesson = rw (e, f) at learns_lesson in
+  pub learns_logs : (cs : List (List Literal)) (vars : ℕ) (old : List (List Literal)) (count : ℕ) → IsCore w.clauses (cs ++ lines) → w.vars ≡ vars → Logs cs assumed vars old lines count → Logs cs assumed vars old lines_now (count + 1)
+  learns_logs cs vars old count core f log =
+      let lesson = rw f at (lesson_of_core w.clauses (cs ++ lines) core assumed w.vars l.line learns_lesson) in
       rw l.logged (logs_more cs assumed vars old lines count log l.line lesson)
 
-  pub learns_clauses : (cs : List (List Literal)) → w.clauses ≡ cs ++ lines → v.clauses ≡ cs ++ lines_now
-  learns_clauses cs e = l.clauses ∙ (ap (λ (x : List (List Literal)). x ++ l.line ∷ []) e ∙ (append_assoc cs lines (l.line ∷ []) ∙ ap (λ (x : List (List Literal)). cs ++ x) (sym l.logged)))
+  pub learns_core : (cs : List (List Literal)) → IsCore w.clauses (cs ++ lines) → IsCore v.clauses (cs ++ lines_now)
+  learns_core cs core =
+      let all : (cs ++ lines) ++ l.line ∷ [] ≡ cs ++ lines_now = append_assoc cs lines (l.line ∷ []) ∙ ap (λ (x : List (List Literal)). cs ++ x) (sym l.logged) in
+      let P : List (List Literal) → Type 0 = λ z. IsCore (w.clauses ++ l.line ∷ []) z in
+      core_along _ _ _ l.clauses (subst P all (core_append w.clauses (cs ++ lines) core (l.line ∷ [])))

@@ -1,6 +1,7 @@
 pub mod Learning
 pub mod Models
 pub mod Logging
+pub mod Cored
 pub mod Counting
 pub mod Watches
 pub mod Touched

@@ -38,6 +38,17 @@ impl Levels {
             asked: 0,
         }
     }
+
+    /// Takes all decisions away.
+    pub fn clear(&mut self)
+        ensures starts { self.new.starts.items ≡ [] }
+        ensures roots { self.new.roots ≡ 0 }
+        ensures asked { self.new.asked ≡ 0 }
+    {
+        self.starts.clear();
+        self.roots = 0;
+        self.asked = 0;
+    }
 }
 
 /// Whether all decisions are assumptions.

@@ -4,6 +4,7 @@ ghost use Rattle.std.specs.Prelude.{◌≡◌, ◌≢◌, ◌++◌, ◌∷◌, �
 ghost use Rattle.ax_proof.specs.Literal.{IsOver};
 ghost use Rattle.ax_proof.specs.Propagation.{HasRup};
 ghost use Rattle.ax_proof.specs.Lines.{IsLawful};
+ghost use Rattle.ax_renew.specs.Core.{IsCore};
 ghost use Rattle.ax_sat.specs.Answer.{AnswerSays, LogGoesOn, units};
 ghost use Rattle.ax_sat.specs.Levels.{StandsIn, AsksIn};
 
@@ -15,20 +16,9 @@ use crate::levels::{Levels, back, is_root};
 use crate::marks::Marks;
 use ax_pick::{Order, Pace};
 use ax_proof::{Clause, Lit};
+use ax_renew::{Due, put, renew};
 use ax_watch::Watch;
 use std::alloc::{AllocError, Global};
-
-/// Puts a clause behind those that are watched.
-fn put(watch: &mut Watch, clause: &Clause) -> Result<(), AllocError>
-    requires { IsOver watch.old.vars clause.now }
-    ensures clauses { OnOk result (watch.new.clauses ≡ watch.old.clauses ++ clause.now ∷ []) }
-    ensures vars { watch.new.vars ≡ watch.old.vars }
-    ensures trail { watch.new.trail ≡ watch.old.trail }
-{
-    watch.reserve(1, clause.len())?;
-    let _place = watch.add(clause);
-    Ok(())
-}
 
 /// Puts the clauses behind those that are watched.
 fn load(watch: &mut Watch, clauses: &[Clause]) -> Result<(), AllocError>
@@ -80,6 +70,67 @@ fn restart(
     Ok(())
 }
 
+/// Lets the variables of all true literals wait for a decision again.
+fn release_all(watch: &Watch, order: &mut Order) -> Result<(), AllocError> {
+    for lit in watch.trail() {
+        order.release(*lit)?;
+    }
+    Ok(())
+}
+
+/// Goes on with a core of what is watched, and with nothing true, where it is time to.
+fn begin_anew(
+    alloc: Global,
+    watch: &mut Watch,
+    levels: &mut Levels,
+    order: &mut Order,
+    due: &mut Due,
+    assumptions: &[Lit],
+) -> Result<(), AllocError>
+    requires stands { StandsIn watch.old levels.old }
+    requires asks { AsksIn watch.old assumptions.now levels.old }
+    ensures core { OnOk result (IsCore watch.new.clauses watch.old.clauses) }
+    ensures vars { watch.new.vars ≡ watch.old.vars }
+    ensures stands { OnOk result (StandsIn watch.new levels.new) }
+    ensures asks { OnOk result (AsksIn watch.new assumptions.now levels.new) }
+{
+    if !due.is_over() {
+        return Ok(());
+    }
+    release_all(watch, order)?;
+    renew(alloc, watch)?;
+    levels.clear();
+    Ok(())
+}
+
+/// When to take decisions back, and when to begin the watch anew.
+#[derive(Clone, Copy)]
+struct Times {
+    pace: Pace,
+    due: Due,
+}
+
+/// Before each line: takes decisions back, and begins the watch anew, where it is time to.
+fn prepare(
+    alloc: Global,
+    watch: &mut Watch,
+    levels: &mut Levels,
+    order: &mut Order,
+    times: &mut Times,
+    assumptions: &[Lit],
+) -> Result<(), AllocError>
+    requires stands { StandsIn watch.old levels.old }
+    requires asks { AsksIn watch.old assumptions.now levels.old }
+    ensures core { OnOk result (IsCore watch.new.clauses watch.old.clauses) }
+    ensures vars { watch.new.vars ≡ watch.old.vars }
+    ensures stands { OnOk result (StandsIn watch.new levels.new) }
+    ensures asks { OnOk result (AsksIn watch.new assumptions.now levels.new) }
+{
+    restart(watch, levels, order, &mut times.pace, assumptions)?;
+    begin_anew(alloc, watch, levels, order, &mut times.due, assumptions)?;
+    Ok(())
+}
+
 /// Learns line after line, until there is an answer or the budget is spent. It owns little, since each way out drops what is
 /// owned.
 fn learn_lines(
@@ -107,9 +158,12 @@ fn learn_lines(
     load(watch, clauses)?;
     load(watch, log.lines.as_slice())?;
     let mut levels = Levels::new(alloc);
-    let mut pace = Pace::new();
+    let mut times = Times {
+        pace: Pace::new(),
+        due: Due::new(),
+    };
     for _ in 0..budget {
-        restart(watch, &mut levels, order, &mut pace, assumptions)?;
+        prepare(alloc, watch, &mut levels, order, &mut times, assumptions)?;
         match descend(alloc, watch, &mut levels, marks, order, assumptions)? {
             Descent::Refuted => return refuted(alloc, log),
             Descent::Complete(assignment) => return Ok(Answer::Model(assignment)),

@@ -24,7 +24,7 @@ fn told(answer: &Answer) -> (Kind, &[bool]) {
 }
 
 /// The clause of these numbers, as in DIMACS files.
-fn clause(rt: &impl Abort, alloc: Global, numbers: &[i32]) -> Result<Clause, Fail> {
+pub(crate) fn clause(rt: &impl Abort, alloc: Global, numbers: &[i32]) -> Result<Clause, Fail> {
     let mut lits = Vec::new(alloc);
     for number in numbers {
         let var = u64::from(number.unsigned_abs());
@@ -34,24 +34,24 @@ fn clause(rt: &impl Abort, alloc: Global, numbers: &[i32]) -> Result<Clause, Fai
     Ok(Clause::from_lits(alloc, lits.as_slice())?.ok_or("a clash")?)
 }
 
-/// Pigeons, one more than holes: variable 6 p + h puts pigeon p, from 0, into hole h, from 1. No two are in one.
+/// Pigeons, one more than holes: variable 7 p + h puts pigeon p, from 0, into hole h, from 1. No two are in one.
 fn pigeons(rt: &impl Abort, alloc: Global, holes: i32) -> Result<Cnf, Fail> {
     assert!(rt; holes >= 1);
-    assert!(rt; holes <= 6);
+    assert!(rt; holes <= 7);
     let mut clauses = Vec::new(alloc);
     for pigeon in 0..holes + 1 {
         let mut housed = Vec::new(alloc);
         for hole in 1..holes + 1 {
-            let here = pigeon.saturating_mul(6).saturating_add(hole);
+            let here = pigeon.saturating_mul(7).saturating_add(hole);
             housed.push(here)?;
             for other in 0..pigeon {
-                let there = other.saturating_mul(6).saturating_add(hole);
+                let there = other.saturating_mul(7).saturating_add(hole);
                 clauses.push(clause(rt, alloc, &[here.saturating_neg(), there.saturating_neg()])?)?;
             }
         }
         clauses.push(clause(rt, alloc, housed.as_slice())?)?;
     }
-    Ok(Cnf { vars: 42, clauses })
+    Ok(Cnf { vars: 56, clauses })
 }
 
 /// What `solve` answers, with its log.
@@ -72,7 +72,7 @@ fn solved(alloc: Global, cnf: &Cnf, assumed: &[Lit], budget: u32) -> Result<(Ans
     Ok((answer, log))
 }
 
-/// Four pigeons in three holes, 22 clauses: one line doesn't show that there is no model. Seven in six, 42 variables and 133
+/// Four pigeons in three holes, 22 clauses: one line doesn't show that there is no model. Seven in six, 133
 /// clauses: refuted within 100,000 lines. The checker accepts the lines each time.
 #[test]
 fn pigeons_are_refuted(rt: HostRuntime) -> Result<(), Fail> {
@@ -90,6 +90,18 @@ fn pigeons_are_refuted(rt: HostRuntime) -> Result<(), Fail> {
         assert!(rt; kind == Kind::Refuted || log.lines.len() == 1);
         assert!(rt; check_lines(alloc, &cnf, log.lines.as_slice()).is_ok());
     }
+    Ok(())
+}
+
+/// Eight pigeons in seven holes take more lines than there are before the watch begins anew.
+#[test]
+fn long_searches_begin_anew(rt: HostRuntime) -> Result<(), Fail> {
+    let alloc = rt.alloc();
+    let cnf = pigeons(&rt, alloc, 7)?;
+    let (answer, log) = solved(alloc, &cnf, &[], 100_000)?;
+    assert_eq!(rt; told(&answer).0, Kind::Refuted);
+    assert!(rt; ends_empty(log.lines.as_slice()));
+    assert!(rt; log.lines.len() > 2000);
     Ok(())
 }
 

@@ -1,7 +1,7 @@
 use Rattle.std.proofs.Common.{◌≡◌, ◌++◌, ◌∷◌, [], ◌∙◌, ap, sym, subst, arith, ℕ, List}
 use Rattle.ax_proof.specs.Literal.{Literal, IsOver}
 use Rattle.ax_watch.specs.Watch.{WatchState}
-use Rattle.ax_sat.proofs.search.put.Goals as goal
+use Rattle.ax_renew.proofs.anew.put.Goals as goal
 
 pub add-place-requires-clause-over : goal.add-place-requires-clause-over
 add-place-requires-clause-over c =
