@@ -1,2 +1,4 @@
 pub mod Ops
 pub mod Calls
+pub mod Ended
+pub mod Kept

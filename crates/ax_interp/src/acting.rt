@@ -4,8 +4,9 @@ ghost use Rattle.ax_meaning.specs.Acts.{assign as assign_act};
 ghost use Rattle.ax_acts.specs.Sources.{source_of};
 ghost use Rattle.ax_flat.specs.Machine.{act, further as further_by};
 ghost use Rattle.ax_interp.specs.Moves.{here_of, move_of, setting_of, given_by};
+ghost use Rattle.ax_interp.specs.Gaps.{AllEnded, StillEnded};
 
-use crate::machine::{Context, Finish, Machine};
+use crate::machine::{Context, Finish, Gap, Machine};
 use crate::moving::{branched, further, returned};
 use ax_acts::assigning::{assign, bump, change, give, keep, read};
 use ax_acts::deciding::{condition, goes_on};
@@ -17,6 +18,7 @@ use ax_flat::{Op, Rhs};
 use ax_prog::{Bin, Init, Lval, SlotId, VarId};
 use ax_runs::calling::value_at_end;
 use ax_values::store::end_var;
+use sqlite_items::Items;
 use std::alloc::AllocError;
 
 /// A declaration.
@@ -119,41 +121,67 @@ pub fn bumps(place: &Lval, up: bool, context: &Context, machine: &mut Machine) -
 }
 
 /// A `return`.
-pub fn returns(rhs: &Option<Rhs>, context: &Context, machine: &mut Machine) -> Option<Finish>
-    ensures { move_of result machine.new ≡ act (setting_of context.now) context.now.flow.now.starts (Some (Op.Return rhs.now)) (here_of machine.old) }
+pub fn returns(
+    rhs: &Option<Rhs>,
+    context: &Context,
+    gaps: &mut Items<Gap>,
+    machine: &mut Machine,
+) -> Result<Option<Finish>, AllocError>
+    requires { AllEnded gaps.old machine.old.state.store.objects }
+    ensures next { IfOk result (λ end. move_of end machine.new ≡ act (setting_of context.now) context.now.flow.now.starts (Some (Op.Return rhs.now)) (here_of machine.old)) }
+    ensures ended { IfOk result (λ end. StillEnded end gaps.new machine.new) }
 {
     match rhs {
-        None => returns_none(context, machine),
-        Some(Rhs::Int(id)) => returns_from(Source::Int(*id), context, machine),
-        Some(Rhs::Ptr(q)) => returns_from(Source::Ptr(q), context, machine),
-        Some(Rhs::Last) => returns_from(Source::Call(machine.last), context, machine),
+        None => returns_none(context, gaps, machine),
+        Some(Rhs::Int(id)) => returns_from(Source::Int(*id), context, gaps, machine),
+        Some(Rhs::Ptr(q)) => returns_from(Source::Ptr(q), context, gaps, machine),
+        Some(Rhs::Last) => returns_from(Source::Call(machine.last), context, gaps, machine),
     }
 }
 
-fn returns_none(context: &Context, machine: &mut Machine) -> Option<Finish>
-    ensures { move_of result machine.new ≡ act (setting_of context.now) context.now.flow.now.starts (Some (Op.Return None)) (here_of machine.old) }
+fn returns_none(
+    context: &Context,
+    gaps: &mut Items<Gap>,
+    machine: &mut Machine,
+) -> Result<Option<Finish>, AllocError>
+    requires { AllEnded gaps.old machine.old.state.store.objects }
+    ensures next { IfOk result (λ end. move_of end machine.new ≡ act (setting_of context.now) context.now.flow.now.starts (Some (Op.Return None)) (here_of machine.old)) }
+    ensures ended { IfOk result (λ end. StillEnded end gaps.new machine.new) }
 {
     match begin_step(context.steps, &mut machine.state) {
-        Err(stop) => Some(Finish::Stopped(stop)),
-        Ok(()) => returned(None, machine),
+        Err(stop) => Ok(Some(Finish::Stopped(stop))),
+        Ok(()) => returned(None, gaps, machine),
     }
 }
 
-fn returns_from(source: Source, context: &Context, machine: &mut Machine) -> Option<Finish>
-    ensures { move_of result machine.new ≡ given_by (setting_of context.now) (source_of (setting_of context.now) source.entry) (here_of machine.old) }
+fn returns_from(
+    source: Source,
+    context: &Context,
+    gaps: &mut Items<Gap>,
+    machine: &mut Machine,
+) -> Result<Option<Finish>, AllocError>
+    requires { AllEnded gaps.old machine.old.state.store.objects }
+    ensures next { IfOk result (λ end. move_of end machine.new ≡ given_by (setting_of context.now) (source_of (setting_of context.now) source.entry) (here_of machine.old)) }
+    ensures ended { IfOk result (λ end. StillEnded end gaps.new machine.new) }
 {
     match give(source, &context.layout, context.steps, &mut machine.state) {
-        Err(stop) => Some(Finish::Stopped(stop)),
-        Ok(cell) => returned(Some(cell), machine),
+        Err(stop) => Ok(Some(Finish::Stopped(stop))),
+        Ok(cell) => returned(Some(cell), gaps, machine),
     }
 }
 
 /// The end of a function without a `return`.
-pub fn falls(context: &Context, machine: &mut Machine) -> Option<Finish>
-    ensures { move_of result machine.new ≡ act (setting_of context.now) context.now.flow.now.starts (Some Op.Fall) (here_of machine.old) }
+pub fn falls(
+    context: &Context,
+    gaps: &mut Items<Gap>,
+    machine: &mut Machine,
+) -> Result<Option<Finish>, AllocError>
+    requires { AllEnded gaps.old machine.old.state.store.objects }
+    ensures next { IfOk result (λ end. move_of end machine.new ≡ act (setting_of context.now) context.now.flow.now.starts (Some Op.Fall) (here_of machine.old)) }
+    ensures ended { IfOk result (λ end. StillEnded end gaps.new machine.new) }
 {
     let value = value_at_end(context.layout.program, machine.running);
-    returned(value, machine)
+    returned(value, gaps, machine)
 }
 
 /// A condition.

@@ -10,6 +10,7 @@ ghost use Rattle.ax_interp.specs.Moves.{ending_of};
 
 mod acting;
 mod calling;
+mod ending;
 mod machine;
 mod moving;
 mod running;

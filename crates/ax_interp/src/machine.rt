@@ -27,6 +27,13 @@ pub struct Machine {
     pub state: State,
 }
 
+/// Objects that have all ended: those from one number up to another. A call that has returned leaves one.
+#[derive(Clone, Copy, PartialEq, Eq, Debug)]
+pub struct Gap {
+    pub from: usize,
+    pub to: usize,
+}
+
 /// How a run ends. `Unfinished` would say that the run came past the end of the code, which no run does.
 #[derive(Clone, Copy, PartialEq, Eq, Debug)]
 pub enum Finish {

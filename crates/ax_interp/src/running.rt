@@ -4,12 +4,13 @@ ghost use Rattle.ax_meaning.specs.Execution.{Unfinished};
 ghost use Rattle.ax_meaning.specs.Runs.{outcome_of};
 ghost use Rattle.ax_flat.specs.Machine.{act, final, final_of, move, Go, start as start_move};
 ghost use Rattle.ax_interp.specs.Moves.{ending_of, here_of, move_of, setting_of};
+ghost use Rattle.ax_interp.specs.Gaps.{AllEnded, StillEnded};
 
 use crate::acting::{
     always, assigns, bumps, changes, declares, ends, falls, keeps, prints, reads, returns, tests,
 };
 use crate::calling::{calls, start_of};
-use crate::machine::{Context, Finish, Machine};
+use crate::machine::{Context, Finish, Gap, Machine};
 use ax_flat::Op;
 use ax_meaning::{State, Stop, Why};
 use ax_runs::start::start;
@@ -47,29 +48,43 @@ fn run_ops(context: &Context, machine: Machine) -> Result<(Finish, State), Alloc
     ensures finishes { IfOk result (λ it. ending_of it.0 ≡ Unfinished → ⊥) }
 {
     let mut now = machine;
+    let mut gaps = Items::new(context.alloc);
     'ops: loop {
-        match step(context, &mut now)? {
+        match step(context, &mut gaps, &mut now)? {
             None => {}
             Some(end) => return Ok((end, now.state)),
         }
     }
 }
 
-/// Does the op at the machine's place.
-fn step(context: &Context, machine: &mut Machine) -> Result<Option<Finish>, AllocError>
-    ensures { IfOk result (λ end. move_of end machine.new ≡ move (setting_of context.now) context.now.flow.now.code context.now.flow.now.starts (here_of machine.old)) }
+/// Does the op at the machine's place. The gaps are objects that have ended.
+fn step(
+    context: &Context,
+    gaps: &mut Items<Gap>,
+    machine: &mut Machine,
+) -> Result<Option<Finish>, AllocError>
+    requires { AllEnded gaps.old machine.old.state.store.objects }
+    ensures next { IfOk result (λ end. move_of end machine.new ≡ move (setting_of context.now) context.now.flow.now.code context.now.flow.now.starts (here_of machine.old)) }
+    ensures ended { IfOk result (λ end. StillEnded end gaps.new machine.new) }
 {
     // The length is a number of the machine, so each place in the code has a next one.
     let _size = context.flow.code.len();
     match context.flow.code.get(machine.place) {
         None => Ok(Some(Finish::Unfinished)),
-        Some(op) => perform(op, context, machine),
+        Some(op) => perform(op, context, gaps, machine),
     }
 }
 
-fn perform(op: &Op, context: &Context, machine: &mut Machine) -> Result<Option<Finish>, AllocError>
-    requires { machine.old.place < usize.MAX }
-    ensures { IfOk result (λ end. move_of end machine.new ≡ act (setting_of context.now) context.now.flow.now.starts (Some op.now) (here_of machine.old)) }
+fn perform(
+    op: &Op,
+    context: &Context,
+    gaps: &mut Items<Gap>,
+    machine: &mut Machine,
+) -> Result<Option<Finish>, AllocError>
+    requires place { machine.old.place < usize.MAX }
+    requires ended { AllEnded gaps.old machine.old.state.store.objects }
+    ensures next { IfOk result (λ end. move_of end machine.new ≡ act (setting_of context.now) context.now.flow.now.starts (Some op.now) (here_of machine.old)) }
+    ensures ended { IfOk result (λ end. StillEnded end gaps.new machine.new) }
 {
     match op {
         Op::Decl(id, init) => declares(*id, init, context, machine),
@@ -78,8 +93,8 @@ fn perform(op: &Op, context: &Context, machine: &mut Machine) -> Result<Option<F
         Op::Change(place, op, id) => Ok(changes(place, *op, *id, context, machine)),
         Op::Bump(place, up) => Ok(bumps(place, *up, context, machine)),
         Op::Call(f, args) => calls(*f, args, context, machine),
-        Op::Return(rhs) => Ok(returns(rhs, context, machine)),
-        Op::Fall => Ok(falls(context, machine)),
+        Op::Return(rhs) => returns(rhs, context, gaps, machine),
+        Op::Fall => falls(context, gaps, machine),
         Op::Test(id, to) => Ok(tests(*id, *to, context, machine)),
         Op::Always => Ok(always(context, machine)),
         Op::Jump(to) => {
