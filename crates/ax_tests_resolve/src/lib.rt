@@ -2,4 +2,18 @@
 #![tactic(auto)]
 
 #[cfg(test)]
-mod sources;
+mod answers;
+#[cfg(test)]
+mod declarations;
+#[cfg(test)]
+mod deep;
+#[cfg(test)]
+mod firsts;
+#[cfg(test)]
+mod functions;
+#[cfg(test)]
+mod names;
+#[cfg(test)]
+mod operators;
+#[cfg(test)]
+mod statements;

@@ -4,6 +4,8 @@
 #[cfg(test)]
 mod flow;
 #[cfg(test)]
+mod language;
+#[cfg(test)]
 mod reports;
 #[cfg(test)]
 mod runs;

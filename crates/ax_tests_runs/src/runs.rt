@@ -164,3 +164,17 @@ fn a_million_calls_are_open_at_once(rt: HostRuntime) -> Result<(), Fail> {
     assert_eq!(rt; ended(&done), (None, None, [].as_slice()));
     Ok(())
 }
+
+const DEEP: &str =
+    "int f(int n) { if (n <= 0) return 0; int r = f(n - 1); int s = r + 1; return s; } int main() { int n; scanf(\"%d\", &n); int r = f(n); return r; }";
+
+/// A hundred thousand open calls return. Of each two objects begin before its callee's, and one after them.
+#[test]
+fn a_deep_recursion_returns(rt: HostRuntime) -> Result<(), Fail> {
+    let program = program_of(rt.alloc(), DEEP)?;
+    let flow = lower(rt.alloc(), &program)?;
+    let done = run(rt.alloc(), &flow, &[100_000], 1_000_000)?;
+    assert_eq!(rt; done.used, 500_007);
+    assert_eq!(rt; ended(&done), (Some(100_000), None, [].as_slice()));
+    Ok(())
+}

@@ -1,4 +1,4 @@
-//! The tests of reading sources: tokens, trees, programs, and what is written back.
+//! The tests of reading sources: tokens, programs, and what is written back.
 #![tactic(auto)]
 
 #[cfg(test)]
@@ -7,7 +7,5 @@ mod programs;
 mod spans;
 #[cfg(test)]
 mod tokens;
-#[cfg(test)]
-mod trees;
 #[cfg(test)]
 mod written;

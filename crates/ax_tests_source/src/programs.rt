@@ -1,9 +1,7 @@
-//! Programs of texts: by each layer in turn, and by all at once.
-use ax_front::read_source;
-use ax_lex::{LexFault, lex};
-use ax_names::resolve;
-use ax_parse::parse;
+//! Programs of texts, and why a text has none.
+use ax_front::{SourceFault, read_source};
 use ax_prog::Program;
+use ax_tree::ParseFault;
 use std::alloc::{AllocError, Global};
 
 const P1: &str =
@@ -25,94 +23,124 @@ fn slots_of(alloc: Global, program: &Program) -> Result<String, AllocError> {
     Ok(all)
 }
 
-// The slots of what is resolved of the tree of a text, and how many variables and functions there are.
-fn resolved(alloc: Global, source: &str) -> Result<String, LexFault> {
-    if source.len() > 1000 {
-        return Err(LexFault::Memory);
-    }
-    let tokens = lex(alloc, source.as_bytes())?;
-    let Ok(tree) = parse(alloc, tokens.as_slice()) else {
-        return Err(LexFault::Memory);
-    };
-    match resolve(alloc, tree) {
-        Err(fault) => Ok(format!(in alloc; "{fault:?}")?),
-        Ok(program) => {
-            let slots = slots_of(alloc, &program)?;
-            let (vars, funs) = (program.vars.len(), program.funs.len());
-            Ok(format!(in alloc; "{slots}{vars} {funs}")?)
-        }
-    }
-}
-
-#[test]
-fn names(rt: HostRuntime) -> Result<(), LexFault> {
-    let rows = [
-        // three slots in source order: the condition with two atoms, the value with one, the number with none
-        (
-            "int main() { int x; int y; if (x < y) x = x; return 0; }",
-            "31-36:2:2 42-43:2:1 52-53:2:0 2 1",
+fn fault_of(alloc: Global, fault: SourceFault) -> Result<String, AllocError> {
+    match fault {
+        SourceFault::Type(fault) => format!(in alloc;
+            "{:?} {}-{}",
+            fault.kind, fault.span.from, fault.span.to
         ),
-        // a name that isn't declared, and one that is declared twice
-        (
-            "int main() { int x; if (x < y) x = x; return 0; }",
-            "NotBuilt",
-        ),
-        (
-            "int main() { int x; int y; int x; if (x < y) x = x; return 0; }",
-            "NotBuilt",
-        ),
-    ];
-    for (source, wanted) in &rows {
-        assert!(rt;
-            resolved(rt.alloc(), source)?.as_str() == *wanted,
-            "{source}"
-        );
+        other => format!(in alloc; "{other:?}"),
     }
-    Ok(())
 }
 
 // The slots of the program of a text, or the fault.
 fn read(alloc: Global, source: &str) -> Result<String, AllocError> {
-    if source.len() > 1000 {
+    if source.len() > 100_000 {
         return Err(AllocError);
     }
     match read_source(alloc, source.as_bytes()) {
-        Err(fault) => format!(in alloc; "{fault:?}"),
+        Err(fault) => fault_of(alloc, fault),
         Ok(program) => slots_of(alloc, &program),
     }
 }
 
+// Places and faults are counted by hand.
+const SOURCES: [(&str, &str); 19] = [
+    (P1, "65-70:2:2 85-86:2:0 107-108:2:0 118-119:2:0 "),
+    (
+        "#include <stdio.h>\n/* a */ int main() { return 0; } // b",
+        "47-48:0:0 ",
+    ),
+    // the condition with two atoms, the value with one, the number with none
+    (
+        "int main() { int x; int y; if (x < y) x = x; return 0; }",
+        "31-36:2:2 42-43:2:1 52-53:2:0 ",
+    ),
+    // parentheses around the whole are no part of a slot
+    (
+        "int main() { int x; x = ((x)) < (x + 1); return 0; }",
+        "24-39:1:2 48-49:1:0 ",
+    ),
+    // an argument is a slot, a call is none, nor is a pointer
+    (
+        "int f(int *p, int n) { return *p + n; } int main() { int x; x = f(&x, x + 1); return x; }",
+        "30-36:1:2 70-75:1:1 85-86:1:1 ",
+    ),
+    ("int main() { return y; }", "UnknownName 20-21"),
+    (
+        "int main() { int x; if (x < y) x = x; return 0; }",
+        "UnknownName 28-29",
+    ),
+    ("int main() { int x; int x; return 0; }", "Redeclared 24-25"),
+    (
+        "int main() { int x; int *p; p = x; return 0; }",
+        "WrongType 28-33",
+    ),
+    ("int main() { 1 = 2; return 0; }", "NotLvalue 13-14"),
+    ("", "NoMain 0-0"),
+    ("int f() { return 0; }", "NoMain 21-21"),
+    ("int main() { return 0; } /*", "Lex(OpenComment(25))"),
+    (
+        "int main() { return -2147483648; }",
+        "Lex(NumberTooLarge(21))",
+    ),
+    ("a @", "Lex(BadByte(2))"),
+    (
+        "int main() { int x; int *p; p = &x; *p++; return 0; }",
+        "Parse(Syntax(38))",
+    ),
+    (
+        "int f(int x) { return x; }\nint main() { int y; y = f(1) + 1; return y; }",
+        "Parse(CallInside(51))",
+    ),
+    ("int main() { break; }", "Misplaced 13-19"),
+    (
+        "struct s { struct s x[2]; }; int main() { return 0; }",
+        "RecursiveStruct 20-24",
+    ),
+];
+
 #[test]
 fn sources(rt: HostRuntime) -> Result<(), AllocError> {
-    let rows = [
-        (P1, "65-70:2:2 85-86:2:0 107-108:2:0 118-119:2:0 "),
-        (
-            "#include <stdio.h>\n/* a */ int main() { return 0; } // b",
-            "47-48:0:0 ",
-        ),
-        (
-            "int main() { int x; x = ((x)) < (x + 1); return 0; }",
-            "24-39:1:2 48-49:1:0 ",
-        ),
-        ("int main() { int x; x = y; return 0; }", "NotBuilt"),
-        ("int main() { int x; int x; return 0; }", "NotBuilt"),
-        ("int main() { return 1; }", "NotBuilt"),
-        ("int main() { return 0; } /*", "Lex(OpenComment(25))"),
-        ("", "NotBuilt"),
-    ];
-    for (source, wanted) in &rows {
+    for (source, wanted) in &SOURCES {
         assert!(rt; read(rt.alloc(), source)?.as_str() == *wanted, "{source}");
     }
     Ok(())
 }
 
-// `int main() { return ` and 250 times `(`.
+// `before`, so many times `middle`, and `behind`.
+fn repeated(
+    alloc: Global,
+    before: &str,
+    middle: &str,
+    times: u32,
+    behind: &str,
+) -> Result<String, AllocError> {
+    let mut text = String::from_str(alloc, before)?;
+    for _ in 0..times {
+        text.push_str(middle)?;
+    }
+    text.push_str(behind)?;
+    Ok(text)
+}
+
 #[test]
 fn nesting(rt: HostRuntime) -> Result<(), AllocError> {
-    let mut source = String::from_str(rt.alloc(), "int main() { return ")?;
-    for _ in 0..250 {
-        source.push('(')?;
+    let rows = [
+        ("int main() { return ", "(", "", 219),
+        ("int main() { int x; x = 1; ", "if (x) ", ";}", 1416),
+    ];
+    for (before, middle, behind, place) in &rows {
+        let source = repeated(rt.alloc(), before, middle, 250, behind)?;
+        if source.len() > 100_000 {
+            return Err(AllocError);
+        }
+        match read_source(rt.alloc(), source.as_bytes()) {
+            Err(SourceFault::Parse(ParseFault::TooDeep(at))) => {
+                assert!(rt; at == *place, "{middle}: {at}")
+            }
+            _ => assert!(rt; false, "{middle}"),
+        }
     }
-    assert!(rt; read(rt.alloc(), &source)?.as_str() == "Parse(TooDeep(219))");
     Ok(())
 }

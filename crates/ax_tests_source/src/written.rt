@@ -1,6 +1,7 @@
-use ax_back::{is_writable, write_changes};
+use ax_back::write_changes;
 use ax_front::read_source;
 use ax_print::{expr_text, splice};
+use ax_prog::copy::copy_expr;
 use ax_prog::same::same_expr;
 use ax_prog::{Atom, Bin, Expr, Lval, SlotId, VarId};
 use sqlite_items::{Boxed, Items};
@@ -88,19 +89,38 @@ fn two_numbers_are_written(rt: HostRuntime) -> Result<(), AllocError> {
     Ok(())
 }
 
-#[test]
-fn forms_that_can_be_written(rt: HostRuntime) -> Result<(), AllocError> {
-    let alloc = rt.alloc();
-    let rows = [
-        (Bin::Le, true),
-        (Bin::Sub, true),
-        (Bin::Mul, false),
-        (Bin::And, false),
-    ];
-    for (op, writable) in rows {
-        assert!(rt; is_writable(&binary(alloc, op)?) == writable, "{op:?}");
+// The tree of the first slot, in its place: atoms that aren't variables are written as they stand in the source.
+fn again(alloc: Global, source: &str) -> Result<Items<u8>, AllocError> {
+    if source.len() > 1000 {
+        return Err(AllocError);
     }
-    assert!(rt; is_writable(&Expr::Num(2147483647)));
-    assert!(rt; !is_writable(&Expr::Num(-1)));
+    match read_source(alloc, source.as_bytes()) {
+        Ok(program) => match program.slots.get(0) {
+            Some(slot) => {
+                let tree = copy_expr(alloc, &slot.expr)?;
+                first_written(alloc, source.as_bytes(), &tree)
+            }
+            None => Err(AllocError),
+        },
+        Err(_) => Err(AllocError),
+    }
+}
+
+#[test]
+fn atoms_are_written_as_they_stand(rt: HostRuntime) -> Result<(), AllocError> {
+    let rows = [
+        (
+            "int main() { int a[3]; int *p; p = a; if (!(p == a + 1) && *p < a[ 0 ]) return 1; return 0; }",
+            "int main() { int a[3]; int *p; p = a; if (((!(p == a + 1)) && (*p < a[ 0 ]))) return 1; return 0; }",
+        ),
+        (
+            "struct s { int n; }; int f(struct s *p, struct s *q) { return -p->n+( *q ) . n; } int main() { return 0; }",
+            "struct s { int n; }; int f(struct s *p, struct s *q) { return ((-p->n) + ( *q ) . n); } int main() { return 0; }",
+        ),
+    ];
+    for (source, wanted) in &rows {
+        let text = again(rt.alloc(), source)?;
+        assert!(rt; text.as_slice() == wanted.as_bytes(), "{source}");
+    }
     Ok(())
 }
