@@ -9,5 +9,3 @@ pub mod declaring;
 pub mod printing;
 pub mod sources;
 pub mod steps;
-#[cfg(test)]
-mod tests;

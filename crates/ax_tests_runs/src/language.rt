@@ -33,12 +33,12 @@ fn shown(alloc: Global, run: &Run) -> Result<String, AllocError> {
     }
 }
 
-// What both print of a source on the inputs 3, -2 and 7, and how they end, where they do so alike.
-fn ran(alloc: Global, source: &str) -> Result<String, Fail> {
+// What both print of a source on the inputs 3, -2 and 7, and how they end within these steps, where they do so alike.
+fn ran(alloc: Global, source: &str, steps: u32) -> Result<String, Fail> {
     let program = program_of(alloc, source)?;
     let flow = lower(alloc, &program)?;
-    let flat = run(alloc, &flow, &[3, -2, 7], 1000)?;
-    let plain = ax_plain::run(alloc, &program, &[3, -2, 7], 1000)?;
+    let flat = run(alloc, &flow, &[3, -2, 7], steps)?;
+    let plain = ax_plain::run(alloc, &program, &[3, -2, 7], steps)?;
     let found = shown(alloc, &plain)?;
     if shown(alloc, &flat)?.as_str() != found.as_str() || flat.used != plain.used {
         return Err(Fail::from("unlike runs"));
@@ -49,7 +49,7 @@ fn ran(alloc: Global, source: &str) -> Result<String, Fail> {
 /// The first of these sources that runs otherwise than the text beside it says, with how it runs; nothing where there is none.
 fn other_run(alloc: Global, rows: &[(&str, &str)]) -> Result<String, Fail> {
     for (source, wanted) in rows {
-        let found = ran(alloc, source)?;
+        let found = ran(alloc, source, 1000)?;
         if found.as_str() != *wanted {
             return Ok(format!(in alloc; "{source}: {found}")?);
         }
@@ -57,7 +57,7 @@ fn other_run(alloc: Global, rows: &[(&str, &str)]) -> Result<String, Fail> {
     Ok(String::new(alloc))
 }
 
-const POINTERS: [(&str, &str); 14] = [
+const POINTERS: [(&str, &str); 17] = [
     (
         "int main() { int *p = 0; if (p != 0 && *p > 0) printf(\"%d\", 1); else printf(\"%d\", 2); return 0; }",
         "2 returns 0",
@@ -111,6 +111,18 @@ const POINTERS: [(&str, &str); 14] = [
         "int main() { int x = 1; int *p = &x; p += 2; return 0; }",
         "undefined OutOfBounds",
     ),
+    (
+        "int main() { int *p = 0; int *q = &*p; return q == 0; }",
+        "returns 1",
+    ),
+    (
+        "int main() { int *p = 0; *p = 1 / 0; return 0; }",
+        "undefined NullAccess",
+    ),
+    (
+        "int main() { int *p; { int a[3] = {5, 6, 7}; a[2] = 8; p = &a[2]; printf(\"%d\", *p); } return *p; }",
+        "8 undefined DeadObject",
+    ),
 ];
 
 /// Null pointers, moves within arrays, and objects that have ended.
@@ -120,7 +132,7 @@ fn pointers(rt: HostRuntime) -> Result<(), Fail> {
     Ok(())
 }
 
-const ARRAYS: [(&str, &str); 13] = [
+const ARRAYS: [(&str, &str); 15] = [
     (
         "int main() { int a[3] = {1, 2, 3}; int i = 2; return a[i]; }",
         "returns 3",
@@ -173,6 +185,14 @@ const ARRAYS: [(&str, &str); 13] = [
         "int main() { int *a[2]; int x = 3; int y = 4; a[0] = &x; a[1] = &y; *a[0] += *a[1]; return x; }",
         "returns 7",
     ),
+    (
+        "int main() { int a[3] = {5, 6, 7}; printf(\"%d\", a[0]); printf(\"%d\", a[2]); return a[4]; }",
+        "5 7 undefined OutOfBounds",
+    ),
+    (
+        "int main() { int a[3] = {5, 6, 7}; return a[-2147483647 - 1]; }",
+        "undefined OutOfBounds",
+    ),
 ];
 
 /// Indices, arrays of arrays, and brace lists.
@@ -182,7 +202,7 @@ fn arrays(rt: HostRuntime) -> Result<(), Fail> {
     Ok(())
 }
 
-const NUMBERS: [(&str, &str); 21] = [
+const NUMBERS: [(&str, &str); 26] = [
     (
         "int main() { int x = 2147483647; return x + 1; }",
         "undefined Overflow",
@@ -255,6 +275,20 @@ const NUMBERS: [(&str, &str); 21] = [
         "int main() { int x; x += 1; return 0; }",
         "undefined Uninit",
     ),
+    (
+        "int main() { int x = 5; return x % 0; }",
+        "undefined Division",
+    ),
+    (
+        "int main() { int x = 2; int y = 0; int z = 3; return (x < 2) + (x <= 2) * 2 + (x && 3) * 4 + (y || 0) * 8 + (z ^ 5) * 16; }",
+        "returns 102",
+    ),
+    ("int main() { return 7 || 1 / 0; }", "returns 1"),
+    ("int main() { return 0 ? 1 / 0 : -5; }", "returns -5"),
+    (
+        "int main() { int x; x = 5; x *= 5; x--; return x; }",
+        "returns 24",
+    ),
 ];
 
 /// What the operators give, and where they are undefined.
@@ -264,7 +298,7 @@ fn numbers(rt: HostRuntime) -> Result<(), Fail> {
     Ok(())
 }
 
-const FUNCTIONS: [(&str, &str); 16] = [
+const FUNCTIONS: [(&str, &str); 21] = [
     (
         "int sum(int a[], int n) { int s = 0; for (int i = 0; i < n; i++) s += a[i]; return s; } int main() { int b[4] = {1, 2, 3, 4}; return sum(b, 4); }",
         "returns 10",
@@ -329,6 +363,26 @@ const FUNCTIONS: [(&str, &str); 16] = [
         "int *most(int *a, int n) { int *p = a; for (int i = 1; i < n; i++) if (a[i] > *p) p = a + i; return p; } int main() { int a[3] = {4, 9, 2}; int *p = most(a, 3); *p = 0; return a[0] + a[1] + a[2]; }",
         "returns 6",
     ),
+    (
+        "int f() { } int main() { return f(); }",
+        "undefined NoValue",
+    ),
+    (
+        "int f() { return 3; } int main() { return f(); }",
+        "returns 3",
+    ),
+    (
+        "void f(int a, int *p, int b, int c) { } int main() { int x; f(5, 0, 1 / 0, x); return 0; }",
+        "undefined Division",
+    ),
+    (
+        "void f(int a, int *p, int b, int c) { } int main() { int x; f(5, 0, x, 1 / 0); return 0; }",
+        "undefined Uninit",
+    ),
+    (
+        "int f(int a, int *p) { return a * 10 + (p == 0); } int main() { int x = f(5, 0); return x; }",
+        "returns 51",
+    ),
 ];
 
 /// Parameters, recursion, and calls without a value.
@@ -338,7 +392,7 @@ fn functions(rt: HostRuntime) -> Result<(), Fail> {
     Ok(())
 }
 
-const STRUCTS: [(&str, &str); 9] = [
+const STRUCTS: [(&str, &str); 12] = [
     (
         "struct p { int x; int y; }; void move(struct p *q, int d) { q->x += d; (*q).y -= d; } int main() { struct p a[2]; a[0].x = 1; a[0].y = 2; a[1].x = 3; a[1].y = 4; move(&a[1], 10); move(a, 5); printf(\"%d\", a[0].x); printf(\"%d\", a->y); printf(\"%d\", a[1].x); printf(\"%d\", (a + 1)->y); return 0; }",
         "6 -3 13 -6 returns 0",
@@ -375,6 +429,18 @@ const STRUCTS: [(&str, &str); 9] = [
         "struct e { }; struct s { struct e x; int a; }; int main() { struct s v[2]; v[1].a = 3; v[0].a = 4; return v[1].a; }",
         "returns 3",
     ),
+    (
+        "struct s { int m; int n[2]; }; int main() { struct s v; v.n[1] = 9; printf(\"%d\", v.n[1]); return v.n[0]; }",
+        "9 undefined Uninit",
+    ),
+    (
+        "struct s { int m; int n[2]; }; int main() { struct s v; v.m = 4; v.n[0] = 5; v.n[1] = 9; printf(\"%d\", **&v.n); printf(\"%d\", (*&v.n)[1]); return (*&v.n)[2]; }",
+        "5 9 undefined OutOfBounds",
+    ),
+    (
+        "struct s { int m; int n[2]; }; int main() { struct s v; printf(\"%d\", &v.n + 1 != &v.n); return &v.n + 2 != &v.n; }",
+        "1 undefined OutOfBounds",
+    ),
 ];
 
 /// Members, also through pointers.
@@ -384,7 +450,7 @@ fn structs(rt: HostRuntime) -> Result<(), Fail> {
     Ok(())
 }
 
-const CONTROL: [(&str, &str); 16] = [
+const CONTROL: [(&str, &str); 18] = [
     (
         "int main() { for (int i = 0; i < 5; i++) { if (i % 2) continue; printf(\"%d\", i); } return 0; }",
         "0 2 4 returns 0",
@@ -446,6 +512,14 @@ const CONTROL: [(&str, &str); 16] = [
         "int main() { int x; while (1) { scanf(\"%d\", &x); printf(\"%d\", x); } }",
         "3 -2 7 undefined NoInput",
     ),
+    (
+        "int main() { int x; if (x) return 1; return 0; }",
+        "undefined Uninit",
+    ),
+    (
+        "int main() { int x; scanf(\"%d\", &x); printf(\"%d\", x); while (x) x--; for (; ; ) scanf(\"%d\", &x); }",
+        "3 undefined NoInput",
+    ),
 ];
 
 /// Loops, jumps, blocks and conditions.
@@ -487,5 +561,107 @@ const GLOBALS: [(&str, &str); 7] = [
 #[test]
 fn globals(rt: HostRuntime) -> Result<(), Fail> {
     assert_eq!(rt; other_run(rt.alloc(), &GLOBALS)?.as_str(), "");
+    Ok(())
+}
+
+const STEPS: [(&str, u32, &str); 7] = [
+    (
+        "int main() { int a[3] = {5, 6}; int x = a[0] - a[1] + a[2]; return x; }",
+        1,
+        "out of steps",
+    ),
+    (
+        "int main() { int a[3] = {5, 6}; int x = a[0] - a[1] + a[2]; return x; }",
+        2,
+        "out of steps",
+    ),
+    (
+        "int main() { int a[3] = {5, 6}; int x = a[0] - a[1] + a[2]; return x; }",
+        3,
+        "returns -1",
+    ),
+    (
+        "int main() { int x; if (x) return 1; return 0; }",
+        1,
+        "out of steps",
+    ),
+    (
+        "int main() { int x; if (x) return 1; return 0; }",
+        2,
+        "undefined Uninit",
+    ),
+    (
+        "int main() { int x; x = 5; x *= 5; x--; return x; }",
+        4,
+        "out of steps",
+    ),
+    (
+        "int main() { int x; x = 5; x *= 5; x--; return x; }",
+        5,
+        "returns 24",
+    ),
+];
+
+// As `other_run`, within the steps of each row.
+fn other_end(alloc: Global, rows: &[(&str, u32, &str)]) -> Result<String, Fail> {
+    for (source, steps, wanted) in rows {
+        let found = ran(alloc, source, *steps)?;
+        if found.as_str() != *wanted {
+            return Ok(format!(in alloc; "{source}: {found}")?);
+        }
+    }
+    Ok(String::new(alloc))
+}
+
+/// Declarations, conditions, assignments and returns take a step each, also where they are undefined.
+#[test]
+fn steps(rt: HostRuntime) -> Result<(), Fail> {
+    assert_eq!(rt; other_end(rt.alloc(), &STEPS)?.as_str(), "");
+    Ok(())
+}
+
+const COUNTS: [(&str, &[u64]); 5] = [
+    ("int main() { int *p = 0; *p = 1 / 0; return 0; }", &[0, 0]),
+    (
+        "int main() { int x; x = 5; x *= 5; x--; return x; }",
+        &[1, 1, 1],
+    ),
+    (
+        "int main() { int i = 0; while (i < 2) i++; return i; }",
+        &[1, 3, 1],
+    ),
+    (
+        "int main() { int x; if (x) return 1; return 0; }",
+        &[1, 0, 0],
+    ),
+    (
+        "void f(int a, int *p, int b, int c) { } int main() { int x; f(5, 0, 1 / 0, x); return 0; }",
+        &[1, 1, 0, 0],
+    ),
+];
+
+// Whether both evaluate the slots of a source this often, without inputs.
+fn counted(alloc: Global, source: &str, wanted: &[u64]) -> Result<bool, Fail> {
+    let program = program_of(alloc, source)?;
+    let flow = lower(alloc, &program)?;
+    let flat = run(alloc, &flow, &[], 1000)?;
+    let plain = ax_plain::run(alloc, &program, &[], 1000)?;
+    Ok(flat.counts.as_slice() == wanted && plain.counts.as_slice() == wanted)
+}
+
+// The first of these sources whose slots are evaluated otherwise than the numbers beside it say; nothing where there is none.
+fn other_counts(alloc: Global, rows: &[(&str, &[u64])]) -> Result<String, Fail> {
+    for (source, wanted) in rows {
+        if !counted(alloc, source, wanted)? {
+            return Ok(format!(in alloc; "{source}")?);
+        }
+    }
+    Ok(String::new(alloc))
+}
+
+/// How often the slots of a source are evaluated, in their order.
+#[test]
+fn counts(rt: HostRuntime) -> Result<(), Fail> {
+    assert_eq!(rt; other_counts(rt.alloc(), &COUNTS)?.as_str(), "");
     Ok(())
 }

@@ -11,3 +11,5 @@ mod reports;
 mod runs;
 #[cfg(test)]
 mod texts;
+#[cfg(test)]
+mod values;

@@ -178,3 +178,27 @@ fn a_deep_recursion_returns(rt: HostRuntime) -> Result<(), Fail> {
     assert_eq!(rt; ended(&done), (Some(100_000), None, [].as_slice()));
     Ok(())
 }
+
+/// `p->n->n .. ->v = 1` with so many arrows before the last one, where `p->n` is `p`.
+fn chain(alloc: Global, arrows: u32) -> Result<String, AllocError> {
+    let mut source = String::from_str(
+        alloc,
+        "struct n { struct n *n; int v; }; int main() { struct n a; struct n *p; a.n = &a; p = &a; p",
+    )?;
+    for _ in 0..arrows {
+        source.push_str("->n")?;
+    }
+    source.push_str("->v = 1; return a.v; }")?;
+    Ok(source)
+}
+
+/// A chain of 6,000 arrows is read, and runs in an ordinary stack.
+#[test]
+fn a_long_chain_runs(rt: HostRuntime) -> Result<(), Fail> {
+    let source = chain(rt.alloc(), 5_999)?;
+    let program = program_of(rt.alloc(), &source)?;
+    let flow = lower(rt.alloc(), &program)?;
+    let done = run(rt.alloc(), &flow, &[], 100)?;
+    assert_eq!(rt; ended(&done), (Some(1), None, [].as_slice()));
+    Ok(())
+}

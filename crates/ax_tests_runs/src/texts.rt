@@ -77,7 +77,7 @@ int main(void)
 /// The program of a source.
 pub fn program_of(alloc: Global, source: &str) -> Result<Program, Fail> {
     let bytes = source.as_bytes();
-    if bytes.len() > 2000 {
+    if bytes.len() > 100_000 {
         return Err(Fail::from("too long"));
     }
     let program = read_source(alloc, bytes).ok().ok_or("refused")?;

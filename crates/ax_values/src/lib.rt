@@ -8,7 +8,5 @@ pub mod layout;
 pub mod operators;
 pub mod pointers;
 pub mod store;
-#[cfg(test)]
-mod tests;
 pub mod types;
 pub mod values;
