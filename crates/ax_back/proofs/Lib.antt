@@ -1,3 +1,4 @@
+mod Deciding
 mod InTurn
 mod Standing
 mod Trees

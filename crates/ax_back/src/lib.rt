@@ -10,11 +10,15 @@ ghost use Rattle.ax_back.specs.Changes.{Change, AreChanges, replaced, changed, p
 
 use ax_fills::{atoms_are_parts, filled_programs, written_numbers};
 use ax_holes::holes_are_spelled;
+
+mod forms;
+
 use ax_print::{expr_text, splice};
 use ax_prog::{Expr, Program, SlotId, Span};
 use ax_reads::{names_are_words, slots_lie, slots_rise};
 use ax_shown::trees_are_shown;
 use ax_swaps::stretches_are_swapped;
+pub use forms::is_writable;
 use sqlite_items::Items;
 use std::alloc::{AllocError, Global};
 

@@ -1,9 +1,9 @@
-use ax_back::write_changes;
+use ax_back::{is_writable, write_changes};
 use ax_front::read_source;
 use ax_print::{expr_text, splice};
 use ax_prog::copy::copy_expr;
 use ax_prog::same::same_expr;
-use ax_prog::{Atom, Bin, Expr, Lval, SlotId, VarId};
+use ax_prog::{Atom, Bin, Expr, Lval, SlotId, Un, VarId};
 use sqlite_items::{Boxed, Items};
 use std::alloc::{AllocError, Global};
 
@@ -122,5 +122,18 @@ fn atoms_are_written_as_they_stand(rt: HostRuntime) -> Result<(), AllocError> {
         let text = again(rt.alloc(), source)?;
         assert!(rt; text.as_slice() == wanted.as_bytes(), "{source}");
     }
+    Ok(())
+}
+
+#[test]
+fn trees_that_can_be_written(rt: HostRuntime) -> Result<(), AllocError> {
+    let alloc = rt.alloc();
+    let rows = [(0, true), (2147483647, true), (-1, false)];
+    for (n, wanted) in rows {
+        assert!(rt; is_writable(&Expr::Num(n)) == wanted, "{n}");
+        let number = Boxed::new(alloc, Expr::Num(n))?;
+        assert!(rt; is_writable(&Expr::Un(Un::Neg, number)) == wanted, "- {n}");
+    }
+    assert!(rt; is_writable(&binary(alloc, Bin::Shl)?));
     Ok(())
 }
