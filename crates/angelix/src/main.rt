@@ -5,8 +5,7 @@ ghost use Rattle.std.specs.Prelude.{◌≡◌, ◌⊎◌, IfErr};
 ghost use Rattle.std_io.specs.declared.io.kind.ErrorKind.TheVariants.{OutOfMemory};
 
 use ax_outside::{HostShelf, Shelf};
-use ax_rank::Ranker;
-use ax_rankers::{Jaccard, Ochiai, Tarantula};
+use ax_rank::{Jaccard, Ochiai, Ranker, Tarantula};
 use ax_top::angelix;
 use std::alloc::{AllocError, Global};
 use std::io;

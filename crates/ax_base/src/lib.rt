@@ -5,6 +5,8 @@
 //! (6.5.10 to 6.5.12) are defined everywhere and are Rust's own.
 #![tactic(auto)]
 
+pub mod gather;
+
 ghost use Rattle.std.specs.Prelude.{◌≡◌};
 ghost use Rattle.ax_base.specs.Arithmetic.{plus_of, minus_of, times_of, negative_of, quotient_of, remainder_of, shift_left_of, shift_right_of, complement_of};
 

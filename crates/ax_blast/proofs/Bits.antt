@@ -12,7 +12,7 @@ use Rattle.ax_gates.specs.Gates.{Gate, free, next, blocks, block, as_clauses, ga
 use Rattle.ax_gates.specs.Words.{digit, word_value, Agree}
 use Rattle.ax_gates.proofs.Circuits.{WithinVars, Wired, Holds, hold_blocks, set_var, set_new, set_old}
 use Rattle.ax_gates.proofs.Values.{pow_pos, word_value-lt}
-use Rattle.ax_adders.specs.Adders.{signed_value}
+use Rattle.ax_gates_adders.specs.Adders.{signed_value}
 use Rattle.ax_blast.specs.Blasting.{constant_bits, word_bits, new_bits, symbol_bits, symbol_gates}
 
 pub word_fits : (z : ℤ) → FitsSigned w32 z → int_wrap w32 z ≡ z

@@ -7,19 +7,19 @@ use Rattle.ax_gates.specs.Gates.{Gate, free, both, either, differ, choose, parit
 use Rattle.ax_gates.specs.Words.{fresh, pairwise, pick_gates, xor_gates, lit_true, lit_false}
 use Rattle.ax_gates.proofs.Circuits.{blocks-append, length-fresh}
 use Rattle.ax_gates.proofs.WordLaws.{length-pairwise}
-use Rattle.ax_adders.specs.Adders.{carry_gates, wrap_gates, less_gates, equal_gates}
-use Rattle.ax_shifter.specs.Shifter.{filling, moved_word, shift_gates}
-use Rattle.ax_multiplier.specs.Products.{row_gates, row_sum_gates, row_sum_outs, row_sum_vars, rows_gates, prod_gates}
-use Rattle.ax_divider.specs.Divisions.{division, negated, fits, turn_gates}
-use Rattle.ax_adders.specs.Adders.{carry_outs}
-use Rattle.ax_blocks.specs.Blocks.{extended, word_gates, word_vars, test_gates}
+use Rattle.ax_gates_adders.specs.Adders.{carry_gates, wrap_gates, less_gates, equal_gates}
+use Rattle.ax_gates_shifter.specs.Shifter.{filling, moved_word, shift_gates}
+use Rattle.ax_gates_multiplier.specs.Products.{row_gates, row_sum_gates, row_sum_outs, row_sum_vars, rows_gates, prod_gates}
+use Rattle.ax_gates_divider.specs.Divisions.{division, negated, fits, turn_gates}
+use Rattle.ax_gates_adders.specs.Adders.{carry_outs}
+use Rattle.ax_blast.specs.Blocks.{extended, word_gates, word_vars, test_gates}
 use Rattle.ax_term.specs.Tree.{Tree, word, word_sym, flag, flag_sym, make, compare, no, all, pick}
 use Rattle.ax_term.specs.declared.WordOp.{WordOp}
 use Rattle.ax_term.specs.declared.WordOp.TheVariants.{Add, Sub, Mul, High, Quot, Left, Shl, Shr, And, Or, Xor}
 use Rattle.ax_term.specs.declared.TestOp.{TestOp}
 use Rattle.ax_term.specs.declared.TestOp.TheVariants.{Eq, Lt}
-use Rattle.ax_order.specs.Order.{order_of}
-use Rattle.ax_order.proofs.Orders.{order_after}
+use Rattle.ax_term.specs.Order.{order_of}
+use Rattle.ax_term.proofs.Orders.{order_after}
 use Rattle.ax_blast.specs.Blasting.{Place, lits_of, flag_lit, gates_of, vars_of, place_of, clauses_from, places_of, flag_lits, units, clause_list}
 use Rattle.ax_blast.proofs.Bits.{symbol_blocks, one_free}
 use Rattle.ax_blast.proofs.Operators.{word_count, test_count}

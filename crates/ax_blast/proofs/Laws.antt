@@ -9,16 +9,16 @@ use Rattle.ax_gates.specs.Words.{fresh, word_value, pick_gates, lit_true, Agree}
 use Rattle.ax_gates.proofs.GateLaws.{signed-not, satisfies-append}
 use Rattle.ax_gates.proofs.Circuits.{WithinVars, gate_inputs, Holds, Wired, Wired-runs, blocks_hold, hold_blocks, gate-agree, set_var, set_new, set_old, as_clause_true, as_clauses_true}
 use Rattle.ax_gates.proofs.WordLaws.{pick_word_law}
-use Rattle.ax_adders.specs.Adders.{signed_value}
-use Rattle.ax_blocks.specs.Blocks.{word_outs, test_out}
-use Rattle.ax_blocks.proofs.Laws.{op_law, test_law}
+use Rattle.ax_gates_adders.specs.Adders.{signed_value}
+use Rattle.ax_blast.specs.Blocks.{word_outs, test_out}
+use Rattle.ax_blast.proofs.BlockLaws.{op_law, test_law}
 use Rattle.ax_term.specs.Tree.{Tree, word, word_sym, flag, flag_sym, make, compare, no, all, pick, is_word}
 use Rattle.ax_term.specs.Folding.{same_tree}
 use Rattle.ax_term.specs.Values.{Interpretation, word_under, flag_under, op_value, test_value}
 use Rattle.ax_term.proofs.FoldLemmas.{same_tree-exact, same_tree-refl}
-use Rattle.ax_order.specs.Order.{among, order_of, AfterChildren, NoneTwice, AllIn}
-use Rattle.ax_order.proofs.Walks.{among-push}
-use Rattle.ax_order.proofs.Orders.{order_after, order_once, order_asserted}
+use Rattle.ax_term.specs.Order.{among, order_of, AfterChildren, NoneTwice, AllIn}
+use Rattle.ax_term.proofs.Walks.{among-push}
+use Rattle.ax_term.proofs.Orders.{order_after, order_once, order_asserted}
 use Rattle.ax_blast.specs.Blasting.{Place, lits_of, flag_lit, symbol_bits, symbol_gates, gates_of, outs_of, vars_of, place_of, clauses_from, places_from, places_of, flag_lits, units, clause_list, HasValueBy, HasValue, EachHasValue, AllTrue, Reads}
 use Rattle.ax_blast.specs.Table.{AllFlagTrees}
 use Rattle.ax_blast.proofs.Bits.{constant_lit, word_bits_value, set_symbol, symbol_holds, signed_fits, length-symbol_bits}

@@ -1,3 +1,5 @@
+pub mod Highs
+pub mod BlockLaws
 pub mod Operators
 pub mod Bits
 pub mod Places

@@ -6,18 +6,18 @@ use Rattle.ax_gates.specs.Gates.{Gate, both, either, differ, none, next}
 use Rattle.ax_gates.specs.Words.{fresh, xor_gates, pick_gates, lit_true, lit_false}
 use Rattle.ax_gates.proofs.Circuits.{WithinVars, Wired, within_more, within_take, within_append, within_negation, fresh_within, length-fresh}
 use Rattle.ax_gates.proofs.WordLaws.{pairwise_wired, length-pairwise}
-use Rattle.ax_adders.specs.Adders.{wrap_gates, wrap_outs, equal_gates, less_gates}
-use Rattle.ax_adders.proofs.Additions.{wrap_wired, length-wrap, wrap_outs_within, length-wrap_outs}
-use Rattle.ax_adders.proofs.Compares.{equal_wired, less_wired}
-use Rattle.ax_shifter.specs.Shifter.{filling, moved_word, shift_gates, shift_outs}
-use Rattle.ax_shifter.proofs.Words.{length-stage, shift_wired}
-use Rattle.ax_multiplier.specs.Products.{row_gates, row_sum_gates, row_sum_outs, row_sum_vars, rows_gates, rows_outs, rows_vars, prod_gates, prod_outs, prod_vars}
-use Rattle.ax_multiplier.proofs.RowLaws.{length-row, length-row_sum, prod_wired, length-prod_outs}
-use Rattle.ax_multiplier.proofs.Steps.{prod_vars_of}
-use Rattle.ax_divider.specs.Divisions.{Division, division, turn_vars, divide_vars}
-use Rattle.ax_divider.proofs.DivisionLaws.{length-remainder, length-division, vars-division, remainder_within, division_wired}
-use Rattle.ax_blocks.specs.Blocks.{extended, word_gates, word_outs, word_vars, test_gates, test_out, test_vars}
-use Rattle.ax_blocks.proofs.Highs.{length-extended}
+use Rattle.ax_gates_adders.specs.Adders.{wrap_gates, wrap_outs, equal_gates, less_gates}
+use Rattle.ax_gates_adders.proofs.Additions.{wrap_wired, length-wrap, wrap_outs_within, length-wrap_outs}
+use Rattle.ax_gates_adders.proofs.Compares.{equal_wired, less_wired}
+use Rattle.ax_gates_shifter.specs.Shifter.{filling, moved_word, shift_gates, shift_outs}
+use Rattle.ax_gates_shifter.proofs.Words.{length-stage, shift_wired}
+use Rattle.ax_gates_multiplier.specs.Products.{row_gates, row_sum_gates, row_sum_outs, row_sum_vars, rows_gates, rows_outs, rows_vars, prod_gates, prod_outs, prod_vars}
+use Rattle.ax_gates_multiplier.proofs.RowLaws.{length-row, length-row_sum, prod_wired, length-prod_outs}
+use Rattle.ax_gates_multiplier.proofs.Steps.{prod_vars_of}
+use Rattle.ax_gates_divider.specs.Divisions.{Division, division, turn_vars, divide_vars}
+use Rattle.ax_gates_divider.proofs.DivisionLaws.{length-remainder, length-division, vars-division, remainder_within, division_wired}
+use Rattle.ax_blast.specs.Blocks.{extended, word_gates, word_outs, word_vars, test_gates, test_out, test_vars}
+use Rattle.ax_blast.proofs.Highs.{length-extended}
 use Rattle.ax_term.specs.declared.WordOp.{WordOp}
 use Rattle.ax_term.specs.declared.WordOp.TheVariants.{Add, Sub, Mul, High, Quot, Left, Shl, Shr, And, Or, Xor}
 use Rattle.ax_term.specs.declared.TestOp.{TestOp}

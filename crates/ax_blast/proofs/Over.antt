@@ -11,19 +11,19 @@ use Rattle.ax_proof.proofs.Clauses.{MatchClause, clause_of_says}
 use Rattle.ax_gates.specs.Gates.{Gate, free, yes, both, either, differ, choose, parity, majority, none, gate_clauses, and_clauses, xor_clauses, mux_clauses, parity_clauses, maj_clauses, none_clauses, each_not, as_clause, as_clauses, block, next, blocks}
 use Rattle.ax_gates.specs.Words.{fresh, pairwise, pick_gates, xor_gates, lit_true, lit_false}
 use Rattle.ax_gates.proofs.Circuits.{WithinVars, Wired, gate_inputs, within_more}
-use Rattle.ax_adders.specs.Adders.{carry_gates, carry_outs, wrap_gates, wrap_outs, less_gates, equal_gates}
-use Rattle.ax_shifter.specs.Shifter.{filling, moved_word, shift_gates, shift_outs}
-use Rattle.ax_multiplier.specs.Products.{row_gates, row_sum_gates, row_sum_outs, row_sum_vars, rows_gates, rows_outs, prod_gates, prod_outs}
-use Rattle.ax_divider.specs.Divisions.{division, negated, fits, turn_gates}
-use Rattle.ax_blocks.specs.Blocks.{extended, word_gates, word_outs, test_gates, test_out}
+use Rattle.ax_gates_adders.specs.Adders.{carry_gates, carry_outs, wrap_gates, wrap_outs, less_gates, equal_gates}
+use Rattle.ax_gates_shifter.specs.Shifter.{filling, moved_word, shift_gates, shift_outs}
+use Rattle.ax_gates_multiplier.specs.Products.{row_gates, row_sum_gates, row_sum_outs, row_sum_vars, rows_gates, rows_outs, prod_gates, prod_outs}
+use Rattle.ax_gates_divider.specs.Divisions.{division, negated, fits, turn_gates}
+use Rattle.ax_blast.specs.Blocks.{extended, word_gates, word_outs, test_gates, test_out}
 use Rattle.ax_term.specs.Tree.{Tree, word, word_sym, flag, flag_sym, make, compare, no, all, pick}
 use Rattle.ax_term.specs.Folding.{same_tree}
 use Rattle.ax_term.specs.declared.WordOp.{WordOp}
 use Rattle.ax_term.specs.declared.WordOp.TheVariants.{Add, Sub, Mul, High, Quot, Left, Shl, Shr, And, Or, Xor}
 use Rattle.ax_term.specs.declared.TestOp.{TestOp}
 use Rattle.ax_term.specs.declared.TestOp.TheVariants.{Eq, Lt}
-use Rattle.ax_order.specs.Order.{order_of}
-use Rattle.ax_order.proofs.Orders.{order_after}
+use Rattle.ax_term.specs.Order.{order_of}
+use Rattle.ax_term.proofs.Orders.{order_after}
 use Rattle.ax_blast.specs.Blasting.{Place, lits_of, flag_lit, constant_bits, word_bits, new_bits, symbol_bits, symbol_gates, gates_of, outs_of, vars_of, place_of, clauses_from, places_from, vars_from, places_of, list_vars, flag_lits, units, clause_list}
 use Rattle.ax_blast.proofs.Places.{AllSized, AllWithin, Ready, AllReady, AllSorts, all_ready, all_within_more, flag_within, found_within, place_size, place_count, place_wired, place_within}
 

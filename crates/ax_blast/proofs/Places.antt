@@ -7,14 +7,14 @@ use Rattle.ax_gates.specs.Words.{fresh, word_value, lit_false, Agree}
 use Rattle.ax_gates.proofs.Circuits.{WithinVars, Wired, within_more, lit-agree, word-agree, fresh_within, length-fresh}
 use Rattle.ax_gates.proofs.WordLaws.{pick_wired, length-pairwise}
 use Rattle.ax_gates.specs.Gates.{choose}
-use Rattle.ax_adders.specs.Adders.{signed_value}
+use Rattle.ax_gates_adders.specs.Adders.{signed_value}
 use Rattle.std.specs.Int.{w32, cast_signed}
 use Rattle.ax_term.specs.Tree.{Tree, word, word_sym, flag, flag_sym, make, compare, no, all, pick, is_word}
 use Rattle.ax_term.specs.Folding.{same_tree}
 use Rattle.ax_term.specs.Values.{Interpretation, word_under, flag_under}
 use Rattle.ax_term.proofs.FoldLemmas.{same_tree-exact}
-use Rattle.ax_order.specs.Order.{among, ChildrenAmong, AfterChildren}
-use Rattle.ax_order.proofs.Walks.{among-push}
+use Rattle.ax_term.specs.Order.{among, ChildrenAmong, AfterChildren}
+use Rattle.ax_term.proofs.Walks.{among-push}
 use Rattle.ax_blast.specs.Blasting.{Place, lits_of, flag_lit, gates_of, outs_of, vars_of, place_of, places_from, HasValueBy, HasValue}
 use Rattle.ax_blast.proofs.Bits.{length-word_bits, length-symbol_bits, word_bits_within, symbol_bits_within, symbol_count, symbol_wired}
 use Rattle.ax_blast.proofs.Operators.{word_count, word_width, word_wired, word_within, test_count, test_wired, test_within}

@@ -6,16 +6,16 @@ use Rattle.std.proofs.lemmas.Option.{slice_get-get_or, slice_get_within, get_or_
 use Rattle.ax_proof.specs.Literal.{Literal, negation}
 use Rattle.ax_gates.specs.Gates.{Gate, both, as_clause, as_clauses, blocks}
 use Rattle.ax_gates.specs.Words.{fresh, pick_gates, lit_true}
-use Rattle.ax_blocks.specs.Blocks.{word_gates, word_outs, test_gates, test_out}
+use Rattle.ax_blast.specs.Blocks.{word_gates, word_outs, test_gates, test_out}
 use Rattle.ax_term.specs.Tree.{Tree, is_word}
 use Rattle.ax_term.specs.Numbered.{Numbered, word_at, word_sym_at, flag_at, flag_sym_at, make_at, compare_at, no_at, all_at, pick_at, number_of, tree}
 use Rattle.ax_term.specs.Bank.{Among, HasWord, HasFlag, ChildrenBefore, IsBank}
 use Rattle.ax_term.specs.Folding.{same_tree}
 use Rattle.ax_term.proofs.FoldLemmas.{nat_eq-exact, same_tree-refl}
 use Rattle.ax_term.proofs.BankLemmas.{same_number}
-use Rattle.ax_order.specs.Order.{tree_at, trees_at, trees, among, AllAmong, AllBelow, AllIn, order_of, ChildrenAmong, AfterChildren}
-use Rattle.ax_order.proofs.Orders.{order_after}
-use Rattle.ax_order.proofs.Walks.{tree_of}
+use Rattle.ax_term.specs.Order.{tree_at, trees_at, trees, among, AllAmong, AllBelow, AllIn, order_of, ChildrenAmong, AfterChildren}
+use Rattle.ax_term.proofs.Orders.{order_after}
+use Rattle.ax_term.proofs.Walks.{tree_of}
 use Rattle.ax_blast.specs.Blasting.{Place, lits_of, flag_lit, gates_of, outs_of, vars_of, place_of, clauses_from, places_from, places_of, vars_from, flag_lits, units}
 use Rattle.ax_blast.specs.Table.{table_of, IsTableOf, AllFlagRows, row_flags, row, IsWordRow, IsFlagRow, ChildrenSized, node_gates, node_outs, AllFlags, AllFlagTrees}
 use Rattle.ax_blast.specs.Blasted.{IsBlasted}

@@ -10,15 +10,15 @@ use Rattle.std.proofs.lemmas.Option.{slice_get-get_or, slice_get_within, get_or_
 use Rattle.std.specs.List.{All}
 use Rattle.ax_proof.specs.Literal.{Literal, IsOver}
 use Rattle.ax_proof.specs.Assignment.{lit_value, satisfies}
-use Rattle.ax_adders.specs.Adders.{signed_value}
+use Rattle.ax_gates_adders.specs.Adders.{signed_value}
 use Rattle.ax_term.specs.Tree.{Tree, word, word_sym, flag, flag_sym, make, compare, no, all, pick}
 use Rattle.ax_term.specs.Numbered.{Numbered, tree}
 use Rattle.ax_term.specs.Values.{Interpretation}
 use Rattle.ax_term.specs.Bank.{IsBank}
 use Rattle.ax_term.proofs.FoldLemmas.{nat_eq-exact, nat_eq-refl}
-use Rattle.ax_order.specs.Order.{tree_at, trees_at, trees, order_of, AllBelow}
-use Rattle.ax_order.proofs.Orders.{order_after}
-use Rattle.ax_order.proofs.Walks.{tree_of}
+use Rattle.ax_term.specs.Order.{tree_at, trees_at, trees, order_of, AllBelow}
+use Rattle.ax_term.proofs.Orders.{order_after}
+use Rattle.ax_term.proofs.Walks.{tree_of}
 use Rattle.ax_blast.specs.Blasting.{Place, lits_of, flag_lit, places_of, list_vars, clause_list, EachHasValue, AllTrue, Reads}
 use Rattle.ax_blast.specs.Table.{table_of, IsTableOf}
 use Rattle.ax_blast.specs.Blasted.{IsBlasted}

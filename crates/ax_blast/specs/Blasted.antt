@@ -2,7 +2,7 @@
 use Rattle.std.specs.Prelude.{◌≡◌, ℕ, List, length}
 use Rattle.ax_term.specs.Tree.{Tree}
 use Rattle.ax_term.specs.Numbered.{Numbered}
-use Rattle.ax_order.specs.Order.{trees_at, order_of, AllBelow}
+use Rattle.ax_term.specs.Order.{trees_at, order_of, AllBelow}
 use Rattle.ax_blast.specs.Blasting.{places_of, list_vars, flag_lits, clause_list}
 use Rattle.ax_blast.specs.Table.{table_of, IsTableOf, AllFlagTrees}
 use Rattle.ax_blast.specs.declared.blasted.Blasted.{Blasted}

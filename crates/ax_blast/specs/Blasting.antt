@@ -5,12 +5,12 @@ use Rattle.ax_proof.specs.Literal.{Literal, literal, negation}
 use Rattle.ax_proof.specs.Assignment.{lit_value, satisfies}
 use Rattle.ax_gates.specs.Gates.{Gate, free, both, as_clause, as_clauses, next, blocks}
 use Rattle.ax_gates.specs.Words.{fresh, pick_gates, lit_true, lit_false}
-use Rattle.ax_adders.specs.Adders.{signed_value}
-use Rattle.ax_blocks.specs.Blocks.{word_gates, word_outs, word_vars, test_gates, test_out, test_vars}
+use Rattle.ax_gates_adders.specs.Adders.{signed_value}
+use Rattle.ax_blast.specs.Blocks.{word_gates, word_outs, word_vars, test_gates, test_out, test_vars}
 use Rattle.ax_term.specs.Tree.{Tree, word, word_sym, flag, flag_sym, make, compare, no, all, pick, is_word}
 use Rattle.ax_term.specs.Folding.{same_tree}
 use Rattle.ax_term.specs.Values.{Interpretation, word_under, flag_under}
-use Rattle.ax_order.specs.Order.{among, order_of}
+use Rattle.ax_term.specs.Order.{among, order_of}
 
 -- the literals that a tree was given, for a word its bits with the lowest first, and for a flag one
 pub record Place : Type 0 where

@@ -1,3 +1,4 @@
+pub mod Blocks
 pub mod Blasting
 pub mod Table
 pub mod Blasted

@@ -4,11 +4,11 @@ use Rattle.std.specs.Global.{Vec}
 use Rattle.ax_proof.specs.Literal.{Literal, literal, negation}
 use Rattle.ax_gates.specs.Gates.{Gate, free, both, next}
 use Rattle.ax_gates.specs.Words.{fresh, pick_gates}
-use Rattle.ax_blocks.specs.Blocks.{word_gates, word_outs, test_gates, test_out}
+use Rattle.ax_blast.specs.Blocks.{word_gates, word_outs, test_gates, test_out}
 use Rattle.ax_term.specs.Tree.{Tree, is_word}
 use Rattle.ax_term.specs.Numbered.{Numbered, word_at, word_sym_at, flag_at, flag_sym_at, make_at, compare_at, no_at, all_at, pick_at, number_of}
 use Rattle.ax_term.specs.Bank.{HasFlag}
-use Rattle.ax_order.specs.Order.{tree_at}
+use Rattle.ax_term.specs.Order.{tree_at}
 use Rattle.ax_blast.specs.Blasting.{Place, lits_of, flag_lit, word_bits, symbol_bits, symbol_gates}
 
 -- what each vector holds

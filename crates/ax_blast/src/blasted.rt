@@ -9,16 +9,15 @@ ghost use Rattle.ax_gates.specs.Words.{lit_true};
 ghost use Rattle.ax_term.specs.Numbered.{Numbered, number_of, tree};
 ghost use Rattle.ax_term.specs.Values.{Interpretation};
 ghost use Rattle.ax_term.specs.Bank.{IsBank};
-ghost use Rattle.ax_order.specs.Order.{trees, trees_at, order_of, AllBelow, AfterChildren};
+ghost use Rattle.ax_term.specs.Order.{trees, trees_at, order_of, AllBelow, AfterChildren};
 ghost use Rattle.ax_blast.specs.Blasting.{vars_of, clauses_from, places_from, places_of, flag_lits, units, clause_list, EachHasValue, AllTrue, vars_from};
 ghost use Rattle.ax_blast.specs.Table.{table_of, IsTableOf, AllFlags, AllFlagRows, ChildrenSized, node_gates, node_outs, row_flags};
 ghost use Rattle.ax_blast.specs.Blasted.{IsBlasted};
 
 use crate::block::{flag_of, term_block};
 use ax_gates::push_clause;
-use ax_order::order;
 use ax_proof::{Clause, Cnf, Lit};
-use ax_term::{Bank, Term};
+use ax_term::{Bank, Term, order};
 use std::alloc::{AllocError, Global};
 
 /// No list has so many terms, since the variables of their blocks have to have numbers.

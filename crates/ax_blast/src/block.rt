@@ -3,12 +3,12 @@
 ghost use Rattle.std.specs.Prelude.{◌≡◌, ◌<◌, ◌≤◌, ◌+◌, ◌-◌, ◌^◌, ◌++◌, ◌∷◌, [], ℤ, IfOk, length, map, slice_get, Some};
 ghost use Rattle.ax_proof.specs.Runs.{Begins};
 ghost use Rattle.ax_gates.specs.Gates.{blocks, both, free, next};
-ghost use Rattle.ax_blocks.specs.Blocks.{test_gates, test_out, test_vars};
+ghost use Rattle.ax_blast.specs.Blocks.{test_gates, test_out, test_vars};
 ghost use Rattle.ax_term.specs.Numbered.{Numbered, number_of, tree};
 ghost use Rattle.ax_blast.specs.Blasting.{flag_lit, constant_bits, word_bits, new_bits, symbol_bits, symbol_gates, vars_of};
 ghost use Rattle.ax_blast.specs.Table.{table_of, row, IsWordRow, IsFlagRow, ChildrenSized, node_gates, node_outs};
 
-use ax_blocks::{test_block, word_block};
+use crate::{test_block, word_block};
 use ax_gates::{and_gate, new_variable, pick_word};
 use ax_proof::{Cnf, Lit};
 use ax_term::{Node, Term, TestOp};

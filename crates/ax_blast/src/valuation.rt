@@ -3,12 +3,12 @@
 ghost use Rattle.std.specs.Prelude.{◌≡◌, ◌≤◌, ◌<◌, ℕ, Bool, true, List, IfOk, OnOk, length, slice_get, Some};
 ghost use Rattle.ax_proof.specs.Assignment.{lit_value, assigned, satisfies};
 ghost use Rattle.ax_gates.specs.Words.{digit};
-ghost use Rattle.ax_adders.specs.Adders.{signed_value};
+ghost use Rattle.ax_gates_adders.specs.Adders.{signed_value};
 ghost use Rattle.ax_term.specs.Tree.{Tree};
 ghost use Rattle.ax_term.specs.Numbered.{tree};
 ghost use Rattle.ax_term.specs.Values.{Interpretation};
 ghost use Rattle.ax_term.specs.Valuation.{interpretation_of};
-ghost use Rattle.ax_order.specs.Order.{order_of, tree_at};
+ghost use Rattle.ax_term.specs.Order.{order_of, tree_at};
 ghost use Rattle.ax_blast.specs.Blasting.{flag_lit, places_of, EachHasValue, AllTrue, Reads};
 ghost use Rattle.ax_blast.specs.Table.{table_of};
 ghost use Rattle.ax_blast.specs.Blasted.{IsBlasted};

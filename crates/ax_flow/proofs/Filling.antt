@@ -1,10 +1,10 @@
 -- Open jumps that get their places.
 use Rattle.std.proofs.Common.{◌≡◌, ℕ, zero, suc, ◌+◌, ◌<◌, List, [], ◌∷◌, ◌++◌, length, take, drop, map, Option, None, Some, IfSome, refl, ap, subst, ◌∙◌, arith}
 use Rattle.std.specs.Prelude.{slice_get, slice_set}
-use Rattle.ax_flat.specs.Drafts.{filled}
-use Rattle.ax_flat.specs.declared.Op.{Op}
-use Rattle.ax_flat.specs.declared.Draft.{Draft}
-use Rattle.ax_flat.specs.declared.Draft.TheVariants.{Made}
+use Rattle.ax_flow.specs.Drafts.{filled}
+use Rattle.ax_flow.specs.declared.Op.{Op}
+use Rattle.ax_flow.specs.declared.Draft.{Draft}
+use Rattle.ax_flow.specs.declared.Draft.TheVariants.{Made}
 
 set_same : {A : Type 0} (xs : List A) (n : ℕ) (x : A) → slice_get xs n ≡ Some x → xs ≡ slice_set xs n x
 set_same [] n x e = refl

@@ -2,8 +2,8 @@
 use Rattle.std.proofs.Common.{◌≡◌, sym, ap, ◌∙◌, ℕ, ◌+◌, ◌<◌, List, [], ◌∷◌, ◌++◌, drop, length, get_or, append_assoc, length-append}
 use Rattle.std.proofs.lemmas.List.{at_drop_more}
 use Rattle.ax_prog.specs.declared.Fun.{Fun}
-use Rattle.ax_flat.specs.declared.Op.{Op}
-use Rattle.ax_flat.specs.Drafts.{fun_code, funs_code, funs_starts}
+use Rattle.ax_flow.specs.declared.Op.{Op}
+use Rattle.ax_flow.specs.Drafts.{fun_code, funs_code, funs_starts}
 
 module _ (funs : List Fun) (at : ℕ) (fun : Fun) (code new first : List Op) (below : at < length funs) (is : fun ≡ get_or funs at fun)
     (coded : first ≡ fun_code fun.body (length code)) (longer : new ≡ code ++ first) where

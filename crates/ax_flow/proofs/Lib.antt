@@ -1,3 +1,6 @@
+pub mod Follow
+pub mod Drawn
+pub mod Layers
 pub mod Filling
 pub mod Loops
 pub mod Functions

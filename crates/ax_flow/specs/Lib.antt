@@ -1,0 +1,4 @@
+pub mod Flat
+pub mod Machine
+pub mod Drafts
+pub mod Laws

@@ -3,12 +3,12 @@ ghost use Rattle.std.specs.Prelude.{◌≡◌, ℤ, List, IfOk};
 ghost use Rattle.std.proofs.Props.{props};
 ghost use Rattle.ax_meaning.specs.Acts.{Setting};
 ghost use Rattle.ax_meaning.specs.Runs.{outcome_of};
-ghost use Rattle.ax_flat.specs.Drafts.{flat_code, flat_starts};
-ghost use Rattle.ax_flat.specs.Flat.{IsFlat};
-ghost use Rattle.ax_flat.specs.Machine.{Comes, final_of, start};
+ghost use Rattle.ax_flow.specs.Drafts.{flat_code, flat_starts};
+ghost use Rattle.ax_flow.specs.Flat.{IsFlat};
+ghost use Rattle.ax_flow.specs.Machine.{Comes, final_of, start};
 
+use crate::Op;
 use crate::lowering::code_of;
-use ax_flat::Op;
 use ax_prog::Program;
 use ax_prog::copy::copy_program;
 use sqlite_items::Items;

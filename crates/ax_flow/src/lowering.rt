@@ -1,11 +1,11 @@
 //! The code of functions and of all of a program.
 ghost use Rattle.std.specs.Prelude.{◌≡◌, IfOk};
-ghost use Rattle.ax_flat.specs.Drafts.{body_draft, fun_code as code_of_fun, funs_code, funs_starts};
+ghost use Rattle.ax_flow.specs.Drafts.{body_draft, fun_code as code_of_fun, funs_code, funs_starts};
 
 use crate::ops::closed;
 use crate::places::after;
 use crate::statements::statement;
-use ax_flat::{Draft, Op};
+use crate::{Draft, Op};
 use ax_prog::{Fun, Stmt};
 use sqlite_items::Items;
 use std::alloc::{AllocError, Global};

@@ -1,11 +1,11 @@
 //! Code that holds no statement, and open jumps that get their places.
 ghost use Rattle.std.specs.Prelude.{◌≡◌, ◌++◌, ◌∷◌, [], IfOk, OnOk, ◌<◌, IfSome, length, map, reverse, slice_get, slice_set};
 ghost use Rattle.ax_meaning.specs.Execution.{declared_by};
-ghost use Rattle.ax_flat.specs.Flat.{assign_code as code_of_assign, decl_code as code_of_decl, return_code as code_of_return, test_op as op_of_test};
-ghost use Rattle.ax_flat.specs.Drafts.{filled, made, ends_draft, block_declared, closed as closed_by};
-ghost use Rattle.ax_flat.specs.declared.Draft.TheVariants.{Made};
+ghost use Rattle.ax_flow.specs.Flat.{assign_code as code_of_assign, decl_code as code_of_decl, return_code as code_of_return, test_op as op_of_test};
+ghost use Rattle.ax_flow.specs.Drafts.{filled, made, ends_draft, block_declared, closed as closed_by};
+ghost use Rattle.ax_flow.specs.declared.Draft.TheVariants.{Made};
 
-use ax_flat::{Draft, Op, Rhs};
+use crate::{Draft, Op, Rhs};
 use ax_prog::copy::{copy_args, copy_init, copy_lval, copy_pexpr};
 use ax_prog::{Init, Lval, SlotId, Stmt, Value, VarId};
 use sqlite_items::Items;

@@ -1,13 +1,13 @@
 //! The code of statements. In a loop the jumps of `break` and `continue` are open until the loop is whole.
 ghost use Rattle.std.specs.Prelude.{◌≡◌, ◌+◌, ◌++◌, [], IfOk, length};
-ghost use Rattle.ax_flat.specs.Drafts.{draft_of, block_draft, block_declared, if_draft, else_draft, while_draft, do_draft, for_draft};
+ghost use Rattle.ax_flow.specs.Drafts.{draft_of, block_draft, block_declared, if_draft, else_draft, while_draft, do_draft, for_draft};
 
 use crate::ops::{
     assign_code, decl_code, end_all, ends_and, fill, return_code, single, test_op,
     with_all_declared, with_declared,
 };
 use crate::places::after;
-use ax_flat::{Draft, Op};
+use crate::{Draft, Op};
 use ax_prog::copy::{copy_args, copy_lval};
 use ax_prog::{SlotId, Stmt, VarId};
 use sqlite_items::Items;
@@ -15,7 +15,7 @@ use std::alloc::{AllocError, Global};
 
 /// The code of a statement from this place on, in a loop whose body has declared these variables, latest first.
 #[cycle(lowering)]
-#[tactic(auto, using(ax_flat::proofs::Layers::drafts))]
+#[tactic(auto, using(crate::proofs::Layers::drafts))]
 pub fn statement(
     stmt: &Stmt,
     alloc: Global,

@@ -6,26 +6,26 @@ use Rattle.ax_prog.specs.declared.Value.{Value}
 use Rattle.ax_prog.specs.declared.Init.{Init}
 use Rattle.ax_prog.specs.declared.Program.{Program}
 use Rattle.ax_prog.specs.declared.Stmt as ps
-use Rattle.ax_grammar.specs.declared.tree.Prefix.TheVariants as pre
-use Rattle.ax_grammar.specs.declared.tree.Expr.{Expr}
-use Rattle.ax_grammar.specs.declared.tree.Expr.TheVariants as e
-use Rattle.ax_grammar.specs.declared.tree.Base.{Base}
-use Rattle.ax_grammar.specs.declared.tree.Initialiser.{Initialiser}
-use Rattle.ax_grammar.specs.declared.tree.Declared.{Declared}
-use Rattle.ax_grammar.specs.declared.tree.Simple.{Simple}
-use Rattle.ax_grammar.specs.declared.tree.Opening.{Opening}
-use Rattle.ax_grammar.specs.declared.tree.Stmt.{Stmt}
-use Rattle.ax_grammar.specs.declared.tree.Head.{Head}
-use Rattle.ax_grammar.specs.declared.tree.Part.{Part}
-use Rattle.ax_grammar.specs.declared.tree.Tree.{Tree}
-use Rattle.ax_program.specs.declared.State.{State}
-use Rattle.ax_program.specs.States.{with_slot, with_var, depth}
-use Rattle.ax_program.specs.Declarations.{Begins, BecomeVars, IsLiteral, BeginsGlobal, with_global, BecomeGlobals}
-use Rattle.ax_program.specs.Statements.{Does, Opens, Tests, Steps, Returns, Becomes, BecomeAll}
-use Rattle.ax_program.specs.Functions.{with_params, DefinesFunction}
-use Rattle.ax_program.specs.Programs.{definitions_of, start, BecomesPart, BecomeParts, IsProgramOf}
-use Rattle.ax_calls.specs.Calls.{◌or◌, first_of, maybe, first_call, inner_call, call_in_simple, call_in_initialiser, call_in_declared, call_in_decl, call_in_opening, call_in_stmt, call_in_part, call_inside}
-use Rattle.ax_calls.proofs.Layers.{first_call-Unary, call_in_stmt-Block, call_in_stmt-If, call_in_stmt-IfElse, call_in_stmt-While, call_in_stmt-Do, call_in_stmt-For}
+use Rattle.ax_parse_grammar.specs.declared.tree.Prefix.TheVariants as pre
+use Rattle.ax_parse_grammar.specs.declared.tree.Expr.{Expr}
+use Rattle.ax_parse_grammar.specs.declared.tree.Expr.TheVariants as e
+use Rattle.ax_parse_grammar.specs.declared.tree.Base.{Base}
+use Rattle.ax_parse_grammar.specs.declared.tree.Initialiser.{Initialiser}
+use Rattle.ax_parse_grammar.specs.declared.tree.Declared.{Declared}
+use Rattle.ax_parse_grammar.specs.declared.tree.Simple.{Simple}
+use Rattle.ax_parse_grammar.specs.declared.tree.Opening.{Opening}
+use Rattle.ax_parse_grammar.specs.declared.tree.Stmt.{Stmt}
+use Rattle.ax_parse_grammar.specs.declared.tree.Head.{Head}
+use Rattle.ax_parse_grammar.specs.declared.tree.Part.{Part}
+use Rattle.ax_parse_grammar.specs.declared.tree.Tree.{Tree}
+use Rattle.ax_names_rules.specs.declared.State.{State}
+use Rattle.ax_names_rules.specs.States.{with_slot, with_var, depth}
+use Rattle.ax_names_rules.specs.Declarations.{Begins, BecomeVars, IsLiteral, BeginsGlobal, with_global, BecomeGlobals}
+use Rattle.ax_names_rules.specs.Statements.{Does, Opens, Tests, Steps, Returns, Becomes, BecomeAll}
+use Rattle.ax_names_rules.specs.Functions.{with_params, DefinesFunction}
+use Rattle.ax_names_rules.specs.Programs.{definitions_of, start, BecomesPart, BecomeParts, IsProgramOf}
+use Rattle.ax_parse_limits.specs.Calls.{◌or◌, first_of, maybe, first_call, inner_call, call_in_simple, call_in_initialiser, call_in_declared, call_in_decl, call_in_opening, call_in_stmt, call_in_part, call_inside}
+use Rattle.ax_parse_limits.proofs.CallLayers.{first_call-Unary, call_in_stmt-Block, call_in_stmt-If, call_in_stmt-IfElse, call_in_stmt-While, call_in_stmt-Do, call_in_stmt-For}
 use Rattle.ax_front.proofs.Outside.{neither, zero_is_plain, inner, number, target, called, given}
 
 -- ---- globals

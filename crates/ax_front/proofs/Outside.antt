@@ -10,19 +10,19 @@ use Rattle.ax_prog.specs.declared.Lval.{Lval}
 use Rattle.ax_prog.specs.declared.Pexpr.{Pexpr}
 use Rattle.ax_prog.specs.declared.Arg.{Arg}
 use Rattle.ax_prog.specs.declared.Value.{Value}
-use Rattle.ax_grammar.specs.declared.tree.Prefix.TheVariants as pre
-use Rattle.ax_grammar.specs.declared.tree.Expr.{Expr, Call'}
-use Rattle.ax_grammar.specs.declared.tree.Expr.TheVariants as e
-use Rattle.ax_typing.specs.declared.Typed.{Typed}
-use Rattle.ax_typing.specs.declared.Typed.TheVariants as t
-use Rattle.ax_typing.specs.Scopes.{Env}
-use Rattle.ax_typing.specs.Types.{is_zero}
-use Rattle.ax_typing.specs.Meaning.{Means}
-use Rattle.ax_program.specs.declared.State.{State}
-use Rattle.ax_program.specs.States.{here}
-use Rattle.ax_program.specs.Values.{IsNumber, IsPointer, Offers, Arguments, Calls, Given, IsTarget}
-use Rattle.ax_calls.specs.Calls.{◌or◌, first_of, first_call, inner_call}
-use Rattle.ax_calls.proofs.Layers.{first_call-Unary, first_call-Binary, first_call-Cond, first_call-Index, first_call-Member, first_call-Arrow, inner_call-Call}
+use Rattle.ax_parse_grammar.specs.declared.tree.Prefix.TheVariants as pre
+use Rattle.ax_parse_grammar.specs.declared.tree.Expr.{Expr, Call'}
+use Rattle.ax_parse_grammar.specs.declared.tree.Expr.TheVariants as e
+use Rattle.ax_names_types.specs.declared.Typed.{Typed}
+use Rattle.ax_names_types.specs.declared.Typed.TheVariants as t
+use Rattle.ax_names_types.specs.Scopes.{Env}
+use Rattle.ax_names_types.specs.Types.{is_zero}
+use Rattle.ax_names_types.specs.Meaning.{Means}
+use Rattle.ax_names_rules.specs.declared.State.{State}
+use Rattle.ax_names_rules.specs.States.{here}
+use Rattle.ax_names_rules.specs.Values.{IsNumber, IsPointer, Offers, Arguments, Calls, Given, IsTarget}
+use Rattle.ax_parse_limits.specs.Calls.{◌or◌, first_of, first_call, inner_call}
+use Rattle.ax_parse_limits.proofs.CallLayers.{first_call-Unary, first_call-Binary, first_call-Cond, first_call-Index, first_call-Member, first_call-Arrow, inner_call-Call}
 
 -- neither part has one
 pub neither : (p q : Option ℕ) → p ≡ None → q ≡ None → (p or q) ≡ None

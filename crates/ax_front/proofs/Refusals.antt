@@ -7,17 +7,17 @@ use Rattle.ax_lex.specs.declared.LexFault.{LexFault}
 use Rattle.ax_lex.specs.declared.LexFault.TheVariants as l
 use Rattle.ax_lex.specs.Faults.{Faulty, IsUnspelled}
 use Rattle.ax_lex.proofs.Unique.{one_list}
-use Rattle.ax_nesting.specs.Nesting.{first_too_deep}
-use Rattle.ax_grammar.specs.declared.tree.Tree.{Tree}
-use Rattle.ax_grammar.specs.Sources.{SpellsTree}
-use Rattle.ax_grammar.proofs.SourcesRead.{one_source}
-use Rattle.ax_calls.specs.Calls.{call_inside}
-use Rattle.ax_large.specs.Wholes.{wholes, first_large}
-use Rattle.ax_tree.specs.declared.faults.ParseFault.{ParseFault}
-use Rattle.ax_tree.specs.declared.faults.ParseFault.TheVariants as p
-use Rattle.ax_tree.specs.Faults as tree
-use Rattle.ax_program.specs.Programs.{IsProgramOf}
-use Rattle.ax_program.proofs.Sources.{one}
+use Rattle.ax_parse_limits.specs.Nesting.{first_too_deep}
+use Rattle.ax_parse_grammar.specs.declared.tree.Tree.{Tree}
+use Rattle.ax_parse_grammar.specs.Sources.{SpellsTree}
+use Rattle.ax_parse_grammar.proofs.SourcesRead.{one_source}
+use Rattle.ax_parse_limits.specs.Calls.{call_inside}
+use Rattle.ax_parse_limits.specs.Wholes.{wholes, first_large}
+use Rattle.ax_parse.specs.declared.faults.ParseFault.{ParseFault}
+use Rattle.ax_parse.specs.declared.faults.ParseFault.TheVariants as p
+use Rattle.ax_parse.specs.Faults as tree
+use Rattle.ax_names_rules.specs.Programs.{IsProgramOf}
+use Rattle.ax_names_rules.proofs.Sources.{one}
 use Rattle.ax_front.specs.declared.SourceFault.{SourceFault}
 use Rattle.ax_front.specs.declared.SourceFault.TheVariants as source
 use Rattle.ax_front.specs.Causes.{from_lex, from_parse, IsRefusedParse, IsRefusedTree}

@@ -4,13 +4,13 @@ use Rattle.ax_prog.specs.declared.Program.{Program}
 use Rattle.ax_prog.specs.declared.tokens.Token.{Token}
 use Rattle.ax_lex.specs.declared.LexFault.{LexFault}
 use Rattle.ax_lex.specs.declared.LexFault.TheVariants as l
-use Rattle.ax_grammar.specs.declared.tree.Tree.{Tree}
-use Rattle.ax_tree.specs.declared.faults.ParseFault.{ParseFault}
-use Rattle.ax_tree.specs.declared.faults.ParseFault.TheVariants as p
-use Rattle.ax_tree.specs.Faults as tree
-use Rattle.ax_types.specs.Firsts.{Exact}
-use Rattle.ax_program.specs.Programs.{IsProgramOf}
-use Rattle.ax_program.specs.FileFaults.{BreaksSource}
+use Rattle.ax_parse_grammar.specs.declared.tree.Tree.{Tree}
+use Rattle.ax_parse.specs.declared.faults.ParseFault.{ParseFault}
+use Rattle.ax_parse.specs.declared.faults.ParseFault.TheVariants as p
+use Rattle.ax_parse.specs.Faults as tree
+use Rattle.ax_names_declared.specs.Firsts.{Exact}
+use Rattle.ax_names_rules.specs.Programs.{IsProgramOf}
+use Rattle.ax_names_rules.specs.FileFaults.{BreaksSource}
 use Rattle.ax_front.specs.declared.SourceFault.{SourceFault}
 use Rattle.ax_front.specs.declared.SourceFault.TheVariants as source
 

@@ -5,17 +5,17 @@ use Rattle.ax_prog.specs.declared.tokens.Token.{Token}
 use Rattle.ax_lex.specs.declared.TheConstants.{MAX_TOKENS}
 use Rattle.ax_lex.specs.Pieces.{SpellsTokens}
 use Rattle.ax_lex.specs.Faults.{Faulty}
-use Rattle.ax_nesting.specs.Nesting.{first_too_deep}
-use Rattle.ax_grammar.specs.declared.tree.Tree.{Tree}
-use Rattle.ax_grammar.specs.Sources.{SpellsTree}
-use Rattle.ax_calls.specs.Calls.{call_inside}
-use Rattle.ax_large.specs.Wholes.{wholes, first_large}
-use Rattle.ax_tree.specs.declared.faults.ParseFault.TheVariants as p
-use Rattle.ax_tree.specs.Faults as tree
-use Rattle.ax_typing.specs.declared.TypeFault.{TypeFault}
-use Rattle.ax_typing.specs.Faults.{turn}
-use Rattle.ax_program.specs.Programs.{IsProgramOf}
-use Rattle.ax_program.specs.FileFaults.{BreaksSource}
+use Rattle.ax_parse_limits.specs.Nesting.{first_too_deep}
+use Rattle.ax_parse_grammar.specs.declared.tree.Tree.{Tree}
+use Rattle.ax_parse_grammar.specs.Sources.{SpellsTree}
+use Rattle.ax_parse_limits.specs.Calls.{call_inside}
+use Rattle.ax_parse_limits.specs.Wholes.{wholes, first_large}
+use Rattle.ax_parse.specs.declared.faults.ParseFault.TheVariants as p
+use Rattle.ax_parse.specs.Faults as tree
+use Rattle.ax_names_types.specs.declared.TypeFault.{TypeFault}
+use Rattle.ax_names_types.specs.Faults.{turn}
+use Rattle.ax_names_rules.specs.Programs.{IsProgramOf}
+use Rattle.ax_names_rules.specs.FileFaults.{BreaksSource}
 use Rattle.ax_front.specs.declared.SourceFault.{SourceFault}
 use Rattle.ax_front.specs.declared.SourceFault.TheVariants as source
 

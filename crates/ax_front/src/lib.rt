@@ -3,22 +3,22 @@
 
 ghost use Rattle.std.specs.Prelude.{◌≡◌, ℕ, ◌<◌, ◌^◌, List, length, None, IfOk, IfErr};
 ghost use Rattle.ax_prog.specs.declared.Program.{Program};
-ghost use Rattle.ax_nesting.specs.Nesting.{first_too_deep};
-ghost use Rattle.ax_grammar.specs.declared.tree.Tree as parsed;
-ghost use Rattle.ax_grammar.specs.Sources.{SpellsTree};
-ghost use Rattle.ax_calls.specs.Calls.{call_inside};
-ghost use Rattle.ax_large.specs.Wholes.{wholes, first_large};
-ghost use Rattle.ax_program.specs.Programs.{IsProgramOf};
+ghost use Rattle.ax_parse_limits.specs.Nesting.{first_too_deep};
+ghost use Rattle.ax_parse_grammar.specs.declared.tree.Tree as parsed;
+ghost use Rattle.ax_parse_grammar.specs.Sources.{SpellsTree};
+ghost use Rattle.ax_parse_limits.specs.Calls.{call_inside};
+ghost use Rattle.ax_parse_limits.specs.Wholes.{wholes, first_large};
+ghost use Rattle.ax_names_rules.specs.Programs.{IsProgramOf};
 ghost use Rattle.ax_front.specs.Causes.{IsRefusedParse, IsRefusedTree};
 ghost use Rattle.ax_front.specs.Texts.{IsProgramOfText, KeepsLimits, FaultIs, RefusesRightly};
 
-use ax_grammar::tree::Tree;
 use ax_lex::{LexFault, lex};
+use ax_names::resolve;
+use ax_names_types::TypeFault;
+use ax_parse::{ParseFault, parse};
+use ax_parse_grammar::tree::Tree;
 use ax_prog::Program;
 use ax_prog::tokens::Token;
-use ax_resolve::resolve;
-use ax_tree::{ParseFault, parse};
-use ax_typing::TypeFault;
 use std::alloc::{AllocError, Global};
 
 /// Why a source was refused, by the first layer that refuses it.

@@ -11,8 +11,8 @@ use Rattle.ax_meaning.specs.Types.{or_zero}
 use Rattle.ax_meaning.specs.Acts.{Setting}
 use Rattle.ax_meaning.specs.Execution.{enter}
 use Rattle.ax_meaning.specs.Runs.{plain_setting, at_start}
-use Rattle.ax_flat.specs.declared.Frame.{Frame}
-use Rattle.ax_flat.specs.Machine.{Go, start, frame_of, call_move}
+use Rattle.ax_flow.specs.declared.Frame.{Frame}
+use Rattle.ax_flow.specs.Machine.{Go, start, frame_of, call_move}
 use Rattle.ax_interp.specs.declared.machine.Machine.{Machine}
 use Rattle.ax_interp.specs.Moves.{calls_of, here_of, with_caller}
 use Rattle.ax_interp.proofs.Ops.{inputs_at_start}

@@ -29,15 +29,15 @@ use Rattle.ax_meaning.specs.Store.{index_of, stored_at, end_named}
 use Rattle.ax_meaning.specs.Values.{place_of, pointer_of}
 use Rattle.ax_meaning.specs.Acts.{Halt, Setting, Got, Done, Halted, got_then, got_of, got_answer, step_if, step, note, count, slot_value, put, with_object, Source, from_int, from_pointer, from_call, assign, blank, listed, cells_of_var, keep, declare, changed_cell, change, bump_by, bump, take_input, read, done_if, print, condition, always, from_arg, arg_values, call_args, give}
 use Rattle.ax_meaning.specs.Execution.{enter, value_at_end}
-use Rattle.ax_acts.specs.declared.sources.Source.{Source as From}
-use Rattle.ax_acts.specs.declared.sources.Source.TheVariants as from
-use Rattle.ax_acts.specs.Sources.{source_of}
-use Rattle.ax_flat.specs.declared.Rhs.{Rhs}
-use Rattle.ax_flat.specs.declared.Rhs.TheVariants as rhs
-use Rattle.ax_flat.specs.declared.Op.{Op}
-use Rattle.ax_flat.specs.declared.Op.TheVariants.{Decl, Keep, Assign, Change, Bump, Call, Return, Fall, Test, Always, Jump, End, Read, Print}
-use Rattle.ax_flat.specs.declared.Frame.{Frame}
-use Rattle.ax_flat.specs.Machine.{Calls, Here, Move, Go, Stay, moves, goes_to, further, returned, source, entered, call_move, act}
+use Rattle.ax_interp_acts.specs.declared.sources.Source.{Source as From}
+use Rattle.ax_interp_acts.specs.declared.sources.Source.TheVariants as from
+use Rattle.ax_interp_acts.specs.Sources.{source_of}
+use Rattle.ax_flow.specs.declared.Rhs.{Rhs}
+use Rattle.ax_flow.specs.declared.Rhs.TheVariants as rhs
+use Rattle.ax_flow.specs.declared.Op.{Op}
+use Rattle.ax_flow.specs.declared.Op.TheVariants.{Decl, Keep, Assign, Change, Bump, Call, Return, Fall, Test, Always, Jump, End, Read, Print}
+use Rattle.ax_flow.specs.declared.Frame.{Frame}
+use Rattle.ax_flow.specs.Machine.{Calls, Here, Move, Go, Stay, moves, goes_to, further, returned, source, entered, call_move, act}
 use Rattle.ax_interp.specs.declared.machine.Gap.{Gap}
 use Rattle.ax_interp.specs.declared.machine.Machine.{Machine}
 use Rattle.ax_interp.specs.declared.machine.Finish.{Finish}

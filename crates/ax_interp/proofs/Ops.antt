@@ -9,11 +9,11 @@ use Rattle.ax_meaning.specs.Acts.{Setting}
 use Rattle.ax_meaning.specs.Execution.{Ending, Unfinished}
 use Rattle.ax_meaning.specs.Runs.{plain_setting, outcome_of, enter_globals, at_start, ending_of_run}
 use Rattle.ax_meaning.proofs.Fuel.{finishes}
-use Rattle.ax_flat.specs.declared.Op.{Op}
-use Rattle.ax_flat.specs.Drafts.{flat_code, flat_starts}
-use Rattle.ax_flat.specs.Machine.{Here, Final, final, final_of, Move, Go, Stay, move, Comes, stops, goes, start}
-use Rattle.ax_flat.proofs.Follow.{flat_runs, comes_to_one}
-use Rattle.ax_flat.proofs.Drawn.{has_flat_code}
+use Rattle.ax_flow.specs.declared.Op.{Op}
+use Rattle.ax_flow.specs.Drafts.{flat_code, flat_starts}
+use Rattle.ax_flow.specs.Machine.{Here, Final, final, final_of, Move, Go, Stay, move, Comes, stops, goes, start}
+use Rattle.ax_flow.proofs.Follow.{flat_runs, comes_to_one}
+use Rattle.ax_flow.proofs.Drawn.{has_flat_code}
 use Rattle.ax_flow.specs.declared.flow.Flow.{Flow}
 
 module _ (r : Setting) (code : List Op) (starts : List ℕ) where

@@ -4,9 +4,9 @@ use Rattle.ax_meaning.specs.declared.Cell.{Cell}
 use Rattle.ax_meaning.specs.Acts.{Setting, Source, give}
 use Rattle.ax_meaning.specs.Execution.{Ending, Returned, Stopped, Unfinished}
 use Rattle.ax_meaning.specs.Runs.{plain_setting}
-use Rattle.ax_acts.specs.Gives.{halt_of}
-use Rattle.ax_flat.specs.declared.Frame.{Frame}
-use Rattle.ax_flat.specs.Machine.{Calls, Here, Move, Go, stays, moves, returned, given_back}
+use Rattle.ax_interp_acts.specs.Gives.{halt_of}
+use Rattle.ax_flow.specs.declared.Frame.{Frame}
+use Rattle.ax_flow.specs.Machine.{Calls, Here, Move, Go, stays, moves, returned, given_back}
 use Rattle.ax_interp.specs.declared.machine.Context.{Context}
 use Rattle.ax_interp.specs.declared.machine.Machine.{Machine}
 use Rattle.ax_interp.specs.declared.machine.Finish.{Finish}

@@ -1,23 +1,23 @@
 //! Ops but calls: each does to the machine what the definition of its op says.
 ghost use Rattle.std.specs.Prelude.{◌≡◌, ◌<◌, IfOk, Some};
 ghost use Rattle.ax_meaning.specs.Acts.{assign as assign_act};
-ghost use Rattle.ax_acts.specs.Sources.{source_of};
-ghost use Rattle.ax_flat.specs.Machine.{act, further as further_by};
+ghost use Rattle.ax_interp_acts.specs.Sources.{source_of};
+ghost use Rattle.ax_flow.specs.Machine.{act, further as further_by};
 ghost use Rattle.ax_interp.specs.Moves.{here_of, move_of, setting_of, given_by};
 ghost use Rattle.ax_interp.specs.Gaps.{AllEnded, StillEnded};
 
 use crate::machine::{Context, Finish, Gap, Machine};
 use crate::moving::{branched, further, returned};
-use ax_acts::assigning::{assign, bump, change, give, keep, read};
-use ax_acts::deciding::{condition, goes_on};
-use ax_acts::declaring::declare;
-use ax_acts::printing::print;
-use ax_acts::sources::Source;
-use ax_acts::steps::begin_step;
-use ax_flat::{Op, Rhs};
+use ax_flow::{Op, Rhs};
+use ax_interp_acts::assigning::{assign, bump, change, give, keep, read};
+use ax_interp_acts::calling::value_at_end;
+use ax_interp_acts::deciding::{condition, goes_on};
+use ax_interp_acts::declaring::declare;
+use ax_interp_acts::printing::print;
+use ax_interp_acts::sources::Source;
+use ax_interp_acts::steps::begin_step;
+use ax_interp_values::store::end_var;
 use ax_prog::{Bin, Init, Lval, SlotId, VarId};
-use ax_runs::calling::value_at_end;
-use ax_values::store::end_var;
 use sqlite_items::Items;
 use std::alloc::AllocError;
 

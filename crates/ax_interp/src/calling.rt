@@ -1,15 +1,15 @@
 //! Calls.
 ghost use Rattle.std.specs.Prelude.{◌≡◌, ◌<◌, ◌+◌, IfOk, OnOk, Some, slice_get};
 ghost use Rattle.ax_meaning.specs.Types.{or_zero};
-ghost use Rattle.ax_flat.specs.Machine.{act, call_move, frame_of};
+ghost use Rattle.ax_flow.specs.Machine.{act, call_move, frame_of};
 ghost use Rattle.ax_interp.specs.Moves.{calls_of, here_of, move_of, setting_of, with_caller};
 
 use crate::machine::{Context, Finish, Machine};
-use ax_acts::printing::call_args;
-use ax_flat::{Frame, Op};
+use ax_flow::{Frame, Op};
+use ax_interp_acts::calling::{copied_names, enter};
+use ax_interp_acts::printing::call_args;
 use ax_meaning::{Cell, Stop, Why};
 use ax_prog::{Arg, Fun, FunId};
-use ax_runs::calling::{copied_names, enter};
 use sqlite_items::Items;
 use std::alloc::AllocError;
 

@@ -5,7 +5,7 @@
 ghost use Rattle.std.specs.Prelude.{◌≡◌, IfOk};
 ghost use Rattle.ax_meaning.specs.Runs.{ending_of_run, run_of, shown};
 ghost use Rattle.ax_meaning.specs.Execution.{Unfinished};
-ghost use Rattle.ax_runs.specs.Passing.{ShowsEnd};
+ghost use Rattle.ax_interp_acts.specs.Passing.{ShowsEnd};
 ghost use Rattle.ax_interp.specs.Moves.{ending_of};
 
 mod acting;
@@ -16,9 +16,9 @@ mod moving;
 mod running;
 
 use ax_flow::Flow;
+pub use ax_interp_acts::passing::{evaluations_of, passes};
+use ax_interp_values::layout::layout_of;
 use ax_meaning::{Cell, Run, RunEnd, State, Stop, Why};
-pub use ax_runs::passing::{evaluations_of, passes};
-use ax_values::layout::layout_of;
 use machine::{Context, Finish};
 use running::run_main;
 use sqlite_items::Items;

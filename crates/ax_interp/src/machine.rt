@@ -1,9 +1,8 @@
 //! Where a run is, and what it goes by.
-use ax_flat::Frame;
-use ax_flow::Flow;
+use ax_flow::{Flow, Frame};
+use ax_interp_values::layout::Layout;
 use ax_meaning::{Cell, State, Stop};
 use ax_prog::FunId;
-use ax_values::layout::Layout;
 use sqlite_items::Items;
 use std::alloc::Global;
 

@@ -1,13 +1,13 @@
 //! Where a run goes on after an act.
 ghost use Rattle.std.specs.Prelude.{◌≡◌, ◌<◌, ◌+◌, if◌then◌else◌, IfOk, OnOk};
-ghost use Rattle.ax_acts.specs.Gives.{got_by};
-ghost use Rattle.ax_flat.specs.Machine.{goes_to, moves, further as further_by, returned as returned_to};
+ghost use Rattle.ax_interp_acts.specs.Gives.{got_by};
+ghost use Rattle.ax_flow.specs.Machine.{goes_to, moves, further as further_by, returned as returned_to};
 ghost use Rattle.ax_interp.specs.Moves.{calls_of, here_of, move_of, given_to};
 ghost use Rattle.ax_interp.specs.Gaps.{AllEnded, StillEnded};
 
 use crate::ending::leave;
 use crate::machine::{Finish, Gap, Machine};
-use ax_flat::Frame;
+use ax_flow::Frame;
 use ax_meaning::{Cell, Stop};
 use sqlite_items::Items;
 use std::alloc::AllocError;

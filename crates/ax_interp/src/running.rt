@@ -2,7 +2,7 @@
 ghost use Rattle.std.specs.Prelude.{◌≡◌, ◌<◌, IfOk, Some};
 ghost use Rattle.ax_meaning.specs.Execution.{Unfinished};
 ghost use Rattle.ax_meaning.specs.Runs.{outcome_of};
-ghost use Rattle.ax_flat.specs.Machine.{act, final, final_of, move, Go, start as start_move};
+ghost use Rattle.ax_flow.specs.Machine.{act, final, final_of, move, Go, start as start_move};
 ghost use Rattle.ax_interp.specs.Moves.{ending_of, here_of, move_of, setting_of};
 ghost use Rattle.ax_interp.specs.Gaps.{AllEnded, StillEnded};
 
@@ -11,9 +11,9 @@ use crate::acting::{
 };
 use crate::calling::{calls, start_of};
 use crate::machine::{Context, Finish, Gap, Machine};
-use ax_flat::Op;
+use ax_flow::Op;
+use ax_interp_acts::start::start;
 use ax_meaning::{State, Stop, Why};
-use ax_runs::start::start;
 use sqlite_items::Items;
 use std::alloc::AllocError;
 

@@ -3,3 +3,5 @@ pub mod Statements
 pub mod Fuel
 pub mod Programs
 pub mod WorkedRuns
+mod AlikeTrees
+mod RunsAlike

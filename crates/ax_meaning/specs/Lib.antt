@@ -7,3 +7,4 @@ pub mod Acts
 pub mod Execution
 pub mod Runs
 pub mod OpenRuns
+pub mod Alike

@@ -4,6 +4,9 @@
 //! which the machines that run programs keep as well.
 #![tactic(auto)]
 
+mod alike;
+
+pub use alike::same_runs;
 use ax_prog::SlotId;
 use sqlite_items::Items;
 

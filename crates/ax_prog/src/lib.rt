@@ -9,6 +9,7 @@ pub mod same;
 mod slots;
 pub mod tokens;
 
+use ax_base::gather::{three, two};
 use copy::{copy_funs, copy_globals, copy_structs, copy_vars};
 use nodes::is_small_tree;
 use slots::{slot_id, with_slot_tree};
@@ -249,11 +250,13 @@ impl Program {
         requires fits { Fits self.now id tree }
         ensures { IfOk result (λ it. it ≡ substituted self.now id tree) }
     {
-        let structs = copy_structs(alloc, self.structs.as_slice())?;
-        let vars = copy_vars(alloc, self.vars.as_slice())?;
-        let globals = copy_globals(alloc, self.globals.as_slice())?;
-        let funs = copy_funs(alloc, self.funs.as_slice())?;
-        let slots = with_slot_tree(alloc, self.slots.as_slice(), id, tree)?;
+        let structs = copy_structs(alloc, self.structs.as_slice());
+        let vars = copy_vars(alloc, self.vars.as_slice());
+        let globals = copy_globals(alloc, self.globals.as_slice());
+        let funs = copy_funs(alloc, self.funs.as_slice());
+        let slots = with_slot_tree(alloc, self.slots.as_slice(), id, tree);
+        let names = three(structs, vars, globals);
+        let ((structs, vars, globals), (funs, slots)) = two(names, two(funs, slots))?;
         Ok(Program {
             structs,
             vars,

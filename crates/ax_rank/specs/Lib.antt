@@ -1,2 +1,6 @@
 pub mod Runs
 pub mod Scores
+pub mod Formulas
+pub mod Kinds
+pub mod Tallies
+pub mod Suspicion

@@ -10,7 +10,7 @@ use Rattle.ax_prog.specs.declared.SlotId.{SlotId}
 use Rattle.ax_prog.specs.declared.Program.{Program}
 use Rattle.ax_prog.specs.Candidates.{slot_at}
 use Rattle.ax_print.specs.Spliced.{AreParts}
-use Rattle.ax_reads.specs.Spans.{LiesIn, SlotsLie, SlotsRise}
+use Rattle.ax_front_facts.specs.Spans.{LiesIn, SlotsLie, SlotsRise}
 use Rattle.ax_space.specs.Chosen.{AreChosen, SlotsFit, space_of}
 use Rattle.ax_repair.specs.Search.{IsSearchable}
 use Rattle.ax_repair.specs.Written.{Change, is_other, is_changed, changes_of, parts_of}

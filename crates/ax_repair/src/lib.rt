@@ -11,8 +11,8 @@ mod least;
 mod trying;
 mod written;
 
+use ax_front_facts::{slots_fit, slots_lie, slots_rise};
 use ax_prog::{Bounds, Program, Sets, SlotId, Suite};
-use ax_reads::{slots_fit, slots_lie, slots_rise};
 use ax_space::{Patch, Space};
 use least::{Found, least_repair};
 use sqlite_items::Items;

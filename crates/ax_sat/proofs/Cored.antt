@@ -3,8 +3,8 @@ use Rattle.std.proofs.Common.{◌≡◌, ℕ, List, [], ◌++◌, map, Bool}
 use Rattle.ax_proof.specs.Literal.{Literal, negation}
 use Rattle.ax_proof.specs.Assignment.{assigned}
 use Rattle.ax_proof.specs.Propagation.{HasRup}
-use Rattle.ax_renew.specs.Core.{IsCore}
-use Rattle.ax_renew.proofs.Cores.{core_conflicts, core_quiet, core_new, core_satisfies, core_append, core_along}
+use Rattle.ax_sat_policy.specs.Core.{IsCore}
+use Rattle.ax_sat_policy.proofs.Cores.{core_conflicts, core_quiet, core_new, core_satisfies, core_append, core_along}
 use Rattle.ax_watch.specs.Watch.{WatchState}
 use Rattle.ax_sat.specs.Answer.{units, IsModel}
 use Rattle.ax_sat.specs.Search.{IsLesson}

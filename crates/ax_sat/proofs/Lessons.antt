@@ -6,8 +6,8 @@ use Rattle.std.proofs.lemmas.List.{take-take, get_or-take}
 use Rattle.ax_proof.specs.Literal.{Literal}
 use Rattle.ax_proof.specs.Trail.{IsConsistent, IsSettled}
 use Rattle.ax_watch.specs.Watch.{WatchState, IsSound}
-use Rattle.ax_renew.specs.Core.{IsCore}
-use Rattle.ax_renew.proofs.Cores.{core_along, core_append}
+use Rattle.ax_sat_policy.specs.Core.{IsCore}
+use Rattle.ax_sat_policy.proofs.Cores.{core_along, core_append}
 use Rattle.ax_sat.specs.Analysis.{Explains}
 use Rattle.ax_sat.specs.Levels.{Stands, Asks, IsDenied}
 use Rattle.ax_sat.specs.Search.{IsLesson, Learns, Logs}

@@ -11,9 +11,9 @@ ghost use Rattle.ax_sat.specs.Search.{AreBitsOf, AreAssigned, BeginSays, IsCompl
 
 use crate::levels::{Asked, Levels, ask, decide, is_root};
 use crate::marks::Marks;
-use ax_pick::Order;
 use ax_proof::trail::Truth;
 use ax_proof::{Assignment, Lit};
+use ax_sat_policy::Order;
 use ax_watch::Watch;
 use std::alloc::{AllocError, Global};
 

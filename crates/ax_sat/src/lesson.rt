@@ -13,8 +13,8 @@ use crate::analysis::learn;
 use crate::answer::Log;
 use crate::levels::{Levels, back, jump, last};
 use crate::marks::Marks;
-use ax_pick::Order;
 use ax_proof::{Clause, Line, Lit};
+use ax_sat_policy::Order;
 use ax_watch::Watch;
 use std::alloc::{AllocError, Global};
 

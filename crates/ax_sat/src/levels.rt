@@ -8,9 +8,9 @@ ghost use Rattle.ax_sat.specs.Levels.{StandsIn, AsksIn, AskSays, GoesBack, IsDen
 
 use crate::analysis::place_of;
 use crate::marks::Marks;
-use ax_pick::Order;
 use ax_proof::trail::Truth;
 use ax_proof::{Line, Lit};
+use ax_sat_policy::Order;
 use ax_watch::Watch;
 use std::alloc::{AllocError, Global};
 

@@ -4,7 +4,7 @@ ghost use Rattle.std.specs.Prelude.{◌≡◌, ◌≢◌, ◌++◌, ◌∷◌, �
 ghost use Rattle.ax_proof.specs.Literal.{IsOver};
 ghost use Rattle.ax_proof.specs.Propagation.{HasRup};
 ghost use Rattle.ax_proof.specs.Lines.{IsLawful};
-ghost use Rattle.ax_renew.specs.Core.{IsCore};
+ghost use Rattle.ax_sat_policy.specs.Core.{IsCore};
 ghost use Rattle.ax_sat.specs.Answer.{AnswerSays, LogGoesOn, units};
 ghost use Rattle.ax_sat.specs.Levels.{StandsIn, AsksIn};
 
@@ -14,9 +14,8 @@ use crate::descent::{Descent, begin, descend};
 use crate::lesson::teach;
 use crate::levels::{Levels, back, is_root};
 use crate::marks::Marks;
-use ax_pick::{Order, Pace};
 use ax_proof::{Clause, Lit};
-use ax_renew::{Due, put, renew};
+use ax_sat_policy::{Due, Order, Pace, put, renew};
 use ax_watch::Watch;
 use std::alloc::{AllocError, Global};
 

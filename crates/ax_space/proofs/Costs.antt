@@ -8,13 +8,13 @@ use Rattle.ax_prog.specs.declared.Expr.{Expr}
 use Rattle.ax_prog.specs.declared.Sets.{Sets}
 use Rattle.ax_prog.specs.declared.Slot.{Slot}
 use Rattle.ax_prog.specs.Nodes.{nodes}
-use Rattle.ax_region.specs.declared.Label.{Label}
-use Rattle.ax_region.specs.declared.Label.TheVariants as label
-use Rattle.ax_region.specs.Positions.{top, at_position, labelled, label_at}
-use Rattle.ax_region.specs.Space.{Changes, InSpace}
-use Rattle.ax_region.specs.Sizes.{words}
-use Rattle.ax_region.proofs.Regions.{Differing-unique}
-use Rattle.ax_region.proofs.Sizes.{space-nodes, changes-nodes, words-small}
+use Rattle.ax_space_trees.specs.declared.Label.{Label}
+use Rattle.ax_space_trees.specs.declared.Label.TheVariants as label
+use Rattle.ax_space_trees.specs.Positions.{top, at_position, labelled, label_at}
+use Rattle.ax_space_trees.specs.Space.{Changes, InSpace}
+use Rattle.ax_space_trees.specs.Sizes.{words}
+use Rattle.ax_space_trees.proofs.Regions.{Differing-unique}
+use Rattle.ax_space_trees.proofs.Sizes.{space-nodes, changes-nodes, words-small}
 use Rattle.ax_space.specs.declared.Patch.{Patch}
 use Rattle.ax_space.specs.Sets.{IsAllowed}
 use Rattle.ax_space.specs.Sets as allowed

@@ -5,14 +5,14 @@ use mathlib.Core.Logic.{inl, inr}
 use Rattle.ax_prog.specs.declared.Expr.{Expr}
 use Rattle.ax_prog.specs.declared.Sets.{Sets}
 use Rattle.ax_prog.specs.declared.Slot.{Slot}
-use Rattle.ax_region.specs.declared.Label.{Label}
-use Rattle.ax_region.specs.declared.Label.TheVariants as label
-use Rattle.ax_region.specs.declared.Costed.{Costed}
-use Rattle.ax_region.specs.Positions.{top, at_position, label_at}
-use Rattle.ax_region.specs.Space.{InSpace}
-use Rattle.ax_region.specs.Trees.{costed}
-use Rattle.ax_region.specs.Within.{IsTreesWithin}
-use Rattle.ax_region.proofs.Members.{here, only, map-has, map-from, flat-has, flat-from, filter-has, filter-from, Apart, Apart-map, Apart-flat, Apart-filter, pairs_from, from_pairs}
+use Rattle.ax_space_trees.specs.declared.Label.{Label}
+use Rattle.ax_space_trees.specs.declared.Label.TheVariants as label
+use Rattle.ax_space_trees.specs.declared.Costed.{Costed}
+use Rattle.ax_space_trees.specs.Positions.{top, at_position, label_at}
+use Rattle.ax_space_trees.specs.Space.{InSpace}
+use Rattle.ax_space_trees.specs.Trees.{costed}
+use Rattle.ax_space_trees.specs.Within.{IsTreesWithin}
+use Rattle.ax_space_trees.proofs.Members.{here, only, map-has, map-from, flat-has, flat-from, filter-has, filter-from, Apart, Apart-map, Apart-flat, Apart-filter, pairs_from, from_pairs}
 use Rattle.ax_space.specs.declared.Row.{Row}
 use Rattle.ax_space.specs.Sets.{IsAllowed}
 use Rattle.ax_space.specs.Chosen.{Chosen}

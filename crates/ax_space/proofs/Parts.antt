@@ -13,9 +13,9 @@ use Rattle.ax_prog.specs.declared.Sets.{Sets}
 use Rattle.ax_prog.specs.declared.Slot.{Slot}
 use Rattle.ax_prog.specs.Substitution as fit
 use Rattle.ax_prog.specs.Substitution.{IsAtomOf}
-use Rattle.ax_region.specs.declared.Label.{Label}
-use Rattle.ax_region.specs.declared.Label.TheVariants as label
-use Rattle.ax_region.proofs.Members.{nothing, only, which, map-has, map-from, filter-has, filter-from, Apart, Apart-append, Apart-map, Apart-filter, pairs_from, from_pairs, take-whole}
+use Rattle.ax_space_trees.specs.declared.Label.{Label}
+use Rattle.ax_space_trees.specs.declared.Label.TheVariants as label
+use Rattle.ax_space_trees.proofs.Members.{nothing, only, which, map-has, map-from, filter-has, filter-from, Apart, Apart-append, Apart-map, Apart-filter, pairs_from, from_pairs, take-whole}
 use Rattle.ax_space.specs.declared.Operator.{Operator}
 use Rattle.ax_space.specs.declared.Operator.TheVariants as operator
 use Rattle.ax_space.specs.Sets.{has_un, has_bin, IsAllowed}

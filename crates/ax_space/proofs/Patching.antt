@@ -15,12 +15,12 @@ use Rattle.ax_prog.specs.Nodes.{nodes, operands}
 use Rattle.ax_prog.specs.Candidates.{slot_at, is_small, candidates_from, candidates_of}
 use Rattle.ax_prog.specs.Substitution.{with_tree, substituted, IsAtomOf, IsLiteral, FitsSlot, Fits}
 use Rattle.ax_prog.proofs.Trees.{expr-cases, expr-induction, operands-Un, operands-Bin, operands-Cond, FitsSlot-Atom, FitsSlot-Un, FitsSlot-Bin, FitsSlot-Cond}
-use Rattle.ax_region.specs.declared.Label.{Label}
-use Rattle.ax_region.specs.declared.Label.TheVariants as label
-use Rattle.ax_region.specs.Positions.{top, nth, operand, at_position, label_at}
-use Rattle.ax_region.specs.Space.{InSpace}
-use Rattle.ax_region.proofs.Tops.{top-Atom}
-use Rattle.ax_region.proofs.Members.{nothing, here, there, only, which, Apart, from_pairs, pairs_from}
+use Rattle.ax_space_trees.specs.declared.Label.{Label}
+use Rattle.ax_space_trees.specs.declared.Label.TheVariants as label
+use Rattle.ax_space_trees.specs.Positions.{top, nth, operand, at_position, label_at}
+use Rattle.ax_space_trees.specs.Space.{InSpace}
+use Rattle.ax_space_trees.proofs.Tops.{top-Atom}
+use Rattle.ax_space_trees.proofs.Members.{nothing, here, there, only, which, Apart, from_pairs, pairs_from}
 use Rattle.ax_space.specs.declared.Patch.{Patch}
 use Rattle.ax_space.specs.Sets.{IsAllowed}
 use Rattle.ax_space.specs.Sets as allowed

@@ -8,9 +8,9 @@ use Rattle.ax_prog.specs.declared.Expr.{Expr}
 use Rattle.ax_prog.specs.declared.Sets.{Sets}
 use Rattle.ax_prog.specs.declared.Slot.{Slot}
 use Rattle.ax_prog.specs.Nodes.{nodes}
-use Rattle.ax_region.specs.Positions.{at_position, labelled}
-use Rattle.ax_region.specs.Space.{IsPosition}
-use Rattle.ax_region.proofs.Members.{here, there, map-has, map-from, Apart, pairs_from, take-whole}
+use Rattle.ax_space_trees.specs.Positions.{at_position, labelled}
+use Rattle.ax_space_trees.specs.Space.{IsPosition}
+use Rattle.ax_space_trees.proofs.Members.{here, there, map-has, map-from, Apart, pairs_from, take-whole}
 use Rattle.ax_space.specs.declared.Mark.{Mark}
 use Rattle.ax_space.specs.declared.Position.{Position}
 use Rattle.ax_space.specs.Chosen.{Chosen}

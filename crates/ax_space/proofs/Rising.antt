@@ -8,7 +8,7 @@ use Rattle.ax_prog.specs.declared.Slot.{Slot}
 use Rattle.ax_prog.specs.declared.SlotId.{SlotId}
 use Rattle.ax_prog.specs.declared.Program.{Program}
 use Rattle.ax_prog.specs.Candidates.{is_small, candidates_from, candidates_of}
-use Rattle.ax_region.proofs.Members.{nothing, here, there, only, which, Apart, Apart-append, from_pairs, pairs_from, take-whole}
+use Rattle.ax_space_trees.proofs.Members.{nothing, here, there, only, which, Apart, Apart-append, from_pairs, pairs_from, take-whole}
 use Rattle.ax_prog.specs.Nodes.{nodes}
 use Rattle.ax_space.specs.Chosen.{AreChosen}
 use Rattle.ax_space.proofs.Patching.{candidate-slot}

@@ -5,9 +5,9 @@ use Rattle.std.proofs.lemmas.List.{get_or_default}
 use Rattle.ax_prog.specs.declared.Expr.{Expr}
 use Rattle.ax_prog.specs.declared.Slot.{Slot}
 use Rattle.ax_prog.specs.Nodes.{nodes}
-use Rattle.ax_region.specs.Space.{Changes}
-use Rattle.ax_region.specs.Sizes.{words}
-use Rattle.ax_region.proofs.Members.{take-whole}
+use Rattle.ax_space_trees.specs.Space.{Changes}
+use Rattle.ax_space_trees.specs.Sizes.{words}
+use Rattle.ax_space_trees.proofs.Members.{take-whole}
 use Rattle.ax_space.specs.Sums.{SumOfChanges, no_trees, one_more, AreSmall, total_room}
 
 abbrev pub tail_of : {X : Type 0} → List X → List X

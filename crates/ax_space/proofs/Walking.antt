@@ -6,11 +6,11 @@ use mathlib.Core.Logic.{inl, inr}
 use Rattle.ax_prog.specs.declared.Expr.{Expr}
 use Rattle.ax_prog.specs.Nodes.{nodes, operands}
 use Rattle.ax_prog.proofs.Trees.{expr-cases, operands-Atom, operands-Un, operands-Bin, operands-Cond, nodes-Atom, nodes-Un, nodes-Bin, nodes-Cond}
-use Rattle.ax_region.specs.Positions.{nth, operand, at_position}
-use Rattle.ax_region.specs.Space.{IsPosition}
-use Rattle.ax_region.specs.Region.{Spot, Out, In, fresh, child_from, child}
-use Rattle.ax_region.proofs.Members.{nothing, here, there, only, which, flat-has, flat-from, filter-has, filter-from, Apart, Apart-append, Apart-flat, Apart-filter}
-use Rattle.ax_region.proofs.Regions.{at-none, not_none}
+use Rattle.ax_space_trees.specs.Positions.{nth, operand, at_position}
+use Rattle.ax_space_trees.specs.Space.{IsPosition}
+use Rattle.ax_space_trees.specs.Region.{Spot, Out, In, fresh, child_from, child}
+use Rattle.ax_space_trees.proofs.Members.{nothing, here, there, only, which, flat-has, flat-from, filter-has, filter-from, Apart, Apart-append, Apart-flat, Apart-filter}
+use Rattle.ax_space_trees.proofs.Regions.{at-none, not_none}
 use Rattle.ax_space.specs.Positions.{ByDigits, Precedes}
 use Rattle.ax_space.specs.Walks.{reached, is_in, stays, has_word, longer_words, next_level, level, shorter}
 

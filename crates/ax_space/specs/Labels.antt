@@ -11,8 +11,8 @@ use Rattle.ax_prog.specs.declared.Span.{Span}
 use Rattle.ax_prog.specs.declared.Sets.{Sets}
 use Rattle.ax_prog.specs.declared.Slot.{Slot}
 use Rattle.ax_prog.specs.Substitution.{IsAtomOf}
-use Rattle.ax_region.specs.declared.Label.{Label}
-use Rattle.ax_region.specs.declared.Label.TheVariants as label
+use Rattle.ax_space_trees.specs.declared.Label.{Label}
+use Rattle.ax_space_trees.specs.declared.Label.TheVariants as label
 use Rattle.ax_space.specs.declared.Operator.{Operator}
 use Rattle.ax_space.specs.declared.Operator.TheVariants as operator
 use Rattle.ax_space.specs.Sets.{has_un, has_bin}

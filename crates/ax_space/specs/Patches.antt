@@ -10,10 +10,10 @@ use Rattle.ax_prog.specs.declared.SlotId.{SlotId}
 use Rattle.ax_prog.specs.declared.Program.{Program}
 use Rattle.ax_prog.specs.Nodes.{nodes}
 use Rattle.ax_prog.specs.Substitution.{substituted}
-use Rattle.ax_region.specs.declared.Label.{Label}
-use Rattle.ax_region.specs.declared.Label.TheVariants as label
-use Rattle.ax_region.specs.Positions.{top, at_position, label_at}
-use Rattle.ax_region.specs.Space.{Changes, InSpace}
+use Rattle.ax_space_trees.specs.declared.Label.{Label}
+use Rattle.ax_space_trees.specs.declared.Label.TheVariants as label
+use Rattle.ax_space_trees.specs.Positions.{top, at_position, label_at}
+use Rattle.ax_space_trees.specs.Space.{Changes, InSpace}
 use Rattle.ax_space.specs.declared.Patch.{Patch}
 use Rattle.ax_space.specs.Sets.{IsAllowed}
 use Rattle.ax_space.specs.Chosen.{Chosen}

@@ -6,10 +6,10 @@ use Rattle.ax_prog.specs.declared.Span.{Span}
 use Rattle.ax_prog.specs.declared.Expr.{Expr}
 use Rattle.ax_prog.specs.declared.Sets.{Sets}
 use Rattle.ax_prog.specs.declared.Slot.{Slot}
-use Rattle.ax_region.specs.declared.Label.{Label}
-use Rattle.ax_region.specs.declared.Label.TheVariants as label
-use Rattle.ax_region.specs.Positions.{at_position, label_at}
-use Rattle.ax_region.specs.Space.{IsPosition}
+use Rattle.ax_space_trees.specs.declared.Label.{Label}
+use Rattle.ax_space_trees.specs.declared.Label.TheVariants as label
+use Rattle.ax_space_trees.specs.Positions.{at_position, label_at}
+use Rattle.ax_space_trees.specs.Space.{IsPosition}
 use Rattle.ax_space.specs.declared.Mark.{Mark}
 use Rattle.ax_space.specs.declared.Mark.TheVariants as mark
 use Rattle.ax_space.specs.declared.Position.{Position}

@@ -3,10 +3,10 @@ use Rattle.std.specs.Prelude.{◌≡◌, ◌≢◌, ℕ, ◌+◌, ◌≤◌, ℤ
 use Rattle.ax_prog.specs.declared.Expr.{Expr}
 use Rattle.ax_prog.specs.declared.Sets.{Sets}
 use Rattle.ax_prog.specs.declared.Slot.{Slot}
-use Rattle.ax_region.specs.declared.Label.{Label}
-use Rattle.ax_region.specs.declared.Label.TheVariants as label
-use Rattle.ax_region.specs.declared.Costed.{Costed}
-use Rattle.ax_region.specs.Trees.{costed}
+use Rattle.ax_space_trees.specs.declared.Label.{Label}
+use Rattle.ax_space_trees.specs.declared.Label.TheVariants as label
+use Rattle.ax_space_trees.specs.declared.Costed.{Costed}
+use Rattle.ax_space_trees.specs.Trees.{costed}
 use Rattle.ax_space.specs.declared.Row.{Row}
 use Rattle.ax_space.specs.declared.Patch.{Patch}
 use Rattle.ax_space.specs.Sets.{IsAllowed}

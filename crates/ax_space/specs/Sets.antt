@@ -8,8 +8,8 @@ use Rattle.ax_prog.specs.declared.Atom.{Atom}
 use Rattle.ax_prog.specs.declared.Sets.{Sets}
 use Rattle.ax_prog.specs.declared.Slot.{Slot}
 use Rattle.ax_prog.specs.Substitution.{IsAtomOf}
-use Rattle.ax_region.specs.declared.Label.{Label}
-use Rattle.ax_region.specs.declared.Label.TheVariants as label
+use Rattle.ax_space_trees.specs.declared.Label.{Label}
+use Rattle.ax_space_trees.specs.declared.Label.TheVariants as label
 
 -- the set that a unary operator belongs to
 abbrev pub has_un : Sets → Un → Bool

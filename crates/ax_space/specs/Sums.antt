@@ -3,8 +3,8 @@ use Rattle.std.specs.Prelude.{ℕ, ◌+◌, ◌*◌, ◌^◌, ◌<◌, List, [],
 use Rattle.ax_prog.specs.declared.Expr.{Expr}
 use Rattle.ax_prog.specs.declared.Slot.{Slot}
 use Rattle.ax_prog.specs.Nodes.{nodes}
-use Rattle.ax_region.specs.Space.{Changes}
-use Rattle.ax_region.specs.Sizes.{words}
+use Rattle.ax_space_trees.specs.Space.{Changes}
+use Rattle.ax_space_trees.specs.Sizes.{words}
 
 -- the changed nodes of a tree for each slot, taken together
 pub data SumOfChanges : List Slot → List Expr → ℕ → Type 0 where

@@ -1,7 +1,7 @@
 -- Words of positions, length by length.
 use Rattle.std.specs.Prelude.{ℕ, zero, suc, Bool, true, false, List, [], ◌∷◌, ◌++◌, map, flat_map, filter, Option, Some}
 use Rattle.ax_prog.specs.declared.Expr.{Expr}
-use Rattle.ax_region.specs.Region.{Spot, Out, In, child}
+use Rattle.ax_space_trees.specs.Region.{Spot, Out, In, child}
 
 -- where a walk along a word ends
 abbrev pub reached : ℕ → Spot → List ℕ → Spot

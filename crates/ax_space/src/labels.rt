@@ -8,7 +8,7 @@ use crate::Operator;
 use ax_prog::copy::copy_atom;
 use ax_prog::same::same_atom;
 use ax_prog::{Atom, Bin, Lval, Sets, Slot, Span, Un, VarId};
-use ax_region::Label;
+use ax_space_trees::Label;
 use sqlite_items::Items;
 use std::alloc::{AllocError, Global};
 

@@ -19,7 +19,7 @@ mod sums;
 mod words;
 
 use ax_prog::{Bin, Expr, Program, Sets, Slot, SlotId, Un};
-use ax_region::Label;
+use ax_space_trees::Label;
 pub use choosing::are_chosen;
 use chosen::chosen_slots;
 use patched::put_trees;

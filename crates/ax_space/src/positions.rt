@@ -3,7 +3,7 @@ ghost use Rattle.std.specs.Prelude.{◌≡◌, ◌↔◌, ◌≤◌, ◌∷◌, 
 ghost use Rattle.std.specs.Option.{option_copied};
 ghost use Rattle.std.specs.List.{All};
 ghost use Rattle.ax_prog.specs.Nodes.{nodes};
-ghost use Rattle.ax_region.specs.Positions.{labelled};
+ghost use Rattle.ax_space_trees.specs.Positions.{labelled};
 ghost use Rattle.ax_space.specs.Labels.{variable};
 ghost use Rattle.ax_space.specs.Positions.{arity, HasOperands, Firsts, IsFirstsNext, old_marks, atom_in, atoms_of, set_marks, IsDescribed, ArePositions};
 
@@ -12,8 +12,8 @@ use crate::words::{is_position, longer_word, part_at, position_words};
 use crate::{Mark, Position};
 use ax_prog::copy::copy_atom;
 use ax_prog::{Atom, Expr, Lval, Sets, Slot, Span, VarId};
-use ax_region::Label;
-use ax_region::labels::{copy_label, label_of, same_label};
+use ax_space_trees::Label;
+use ax_space_trees::labels::{copy_label, label_of, same_label};
 use sqlite_items::Items;
 use std::alloc::{AllocError, Global};
 

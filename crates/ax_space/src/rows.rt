@@ -6,7 +6,7 @@ use crate::labels::allowed_labels;
 use crate::{Patch, Row};
 use ax_prog::copy::copy_expr;
 use ax_prog::{Expr, Sets, Slot};
-use ax_region::{Costed, trees_within};
+use ax_space_trees::{Costed, trees_within};
 use sqlite_items::Items;
 use std::alloc::{AllocError, Global};
 

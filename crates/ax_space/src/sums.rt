@@ -5,8 +5,8 @@ ghost use Rattle.ax_prog.specs.Nodes.{nodes};
 ghost use Rattle.ax_space.specs.Sums.{SumOfChanges, AreSmall, total_room};
 
 use ax_prog::{Expr, Slot};
-use ax_region::changes::changed_nodes;
-use ax_region::counting::most_nodes;
+use ax_space_trees::changes::changed_nodes;
+use ax_space_trees::counting::most_nodes;
 
 /// The changed nodes of a tree for each slot, taken together.
 pub fn sum_of_changes(slots: &[Slot], trees: &[Expr]) -> u64

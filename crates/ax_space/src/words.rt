@@ -2,8 +2,8 @@
 ghost use Rattle.std.specs.Prelude.{◌≡◌, ◌++◌, ◌∷◌, [], ◌≤◌, ◌+◌, Some, IfOk, filter, map};
 ghost use Rattle.std.specs.Option.{option_copied};
 ghost use Rattle.ax_prog.specs.Nodes.{nodes};
-ghost use Rattle.ax_region.specs.Positions.{operand, at_position};
-ghost use Rattle.ax_region.specs.Region.{fresh};
+ghost use Rattle.ax_space_trees.specs.Positions.{operand, at_position};
+ghost use Rattle.ax_space_trees.specs.Region.{fresh};
 ghost use Rattle.ax_space.specs.Walks.{is_in, stays, has_word, with_letter, next_level, shorter};
 
 use ax_prog::Expr;

@@ -3,3 +3,5 @@ pub mod BankLemmas
 pub mod ValueLemmas
 pub mod FoldLemmas
 pub mod ValuationLemmas
+pub mod Walks
+pub mod Orders

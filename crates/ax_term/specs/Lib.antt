@@ -6,3 +6,5 @@ pub mod Values
 pub mod Folding
 pub mod Bank
 pub mod Valuation
+pub mod Order
+pub mod Walk

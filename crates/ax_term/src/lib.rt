@@ -12,6 +12,10 @@ ghost use Rattle.ax_term.specs.Values.{Interpretation, unsigned_quot, unsigned_l
 ghost use Rattle.ax_term.specs.Folding.{constant_of, truth_of, same_tree, drops_right_zero, drops_left_zero, at_same, all_by, pick_by, make_word, make_test, make_no, make_all, make_pick};
 ghost use Rattle.ax_term.specs.Bank.{Among, HasWord, HasFlag, ChildrenBefore, IsBank, Stay, GainsAtMost, key_of};
 
+mod walk;
+
+pub use walk::order;
+
 mod valuation;
 
 use indexmap::IndexMap;

@@ -1,9 +1,9 @@
 //! Worked examples of adders, comparisons and shifts of 32 bits: numbers of variables and clauses counted by hand.
 
 use crate::circuits::{without_clauses, word};
-use ax_adders::{equal, less, sum};
+use ax_gates_adders::{equal, less, sum};
+use ax_gates_shifter::shift;
 use ax_proof::Lit;
-use ax_shifter::shift;
 use std::test::Fail;
 
 /// A sum that wraps has 31 sums of three bits with 14 clauses each, and 8 clauses for the last bit. One with its carry out, the

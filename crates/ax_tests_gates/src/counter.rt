@@ -1,7 +1,7 @@
 //! Worked examples of the counter: clauses written out by hand.
 
 use crate::circuits::{expect, without_clauses};
-use ax_counter::at_most;
+use ax_gates_counter::at_most;
 use ax_proof::Lit;
 use std::test::Fail;
 

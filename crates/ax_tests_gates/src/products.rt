@@ -2,8 +2,8 @@
 //! divisions of numbers of four bits.
 
 use crate::circuits::{without_clauses, word};
-use ax_divider::divide;
-use ax_multiplier::prod;
+use ax_gates_divider::divide;
+use ax_gates_multiplier::prod;
 use ax_proof::{Clause, Lit};
 use std::process::Abort;
 use std::test::Fail;

@@ -1,9 +1,9 @@
 use crate::texts::{numbered, repeated};
-use ax_expressions::tokens::are_at;
-use ax_expressions::{args, postfix, unary, whole, whole_until};
-use ax_grammar::terminals::Terminal;
-use ax_grammar::tree::Expr;
 use ax_lex::LexFault;
+use ax_parse_expressions::tokens::are_at;
+use ax_parse_expressions::{args, postfix, unary, whole, whole_until};
+use ax_parse_grammar::terminals::Terminal;
+use ax_parse_grammar::tree::Expr;
 use std::alloc::{AllocError, Global};
 
 // Names as the places where they stand; of arguments, how many they are.

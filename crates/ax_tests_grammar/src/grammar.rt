@@ -1,10 +1,12 @@
 use crate::texts::numbered;
-use ax_expressions::whole;
-use ax_grammar::operators::{Post, binary_of, compound_of, level, post_of, prefix_of, step_of};
-use ax_grammar::starts::{Start, start_of};
-use ax_grammar::terminals::{Terminal, fits};
-use ax_grammar::tree::{Prefix, span_of};
 use ax_lex::LexFault;
+use ax_parse_expressions::whole;
+use ax_parse_grammar::operators::{
+    Post, binary_of, compound_of, level, post_of, prefix_of, step_of,
+};
+use ax_parse_grammar::starts::{Start, start_of};
+use ax_parse_grammar::terminals::{Terminal, fits};
+use ax_parse_grammar::tree::{Prefix, span_of};
 use ax_prog::tokens::{Keyword, Kind, Mark};
 use ax_prog::{Bin, Span};
 

@@ -1,10 +1,8 @@
 //! Sources, and what the limits say of them.
 use crate::texts::{numbered, repeated, tokens_of};
-use ax_calls::call_inside;
-use ax_large::too_large;
 use ax_lex::LexFault;
-use ax_nesting::too_deep;
-use ax_tree::{parse, read_tree};
+use ax_parse::{parse, read_tree};
+use ax_parse_limits::{call_inside, too_deep, too_large};
 use std::alloc::Global;
 
 #[test]

@@ -1,12 +1,12 @@
 use crate::texts::{repeated, tokens_of};
-use ax_expressions::ReadFault;
-use ax_grammar::tree::{Part, Size, Tree};
-use ax_prog::{Span, Ty};
-use ax_tree::read_tree;
-use ax_types::{
+use ax_names_declared::{
     Known, Signature, add_struct, agrees, filled, object_type, signature_of, struct_type,
 };
-use ax_typing::{TypeFault, TypeKind};
+use ax_names_types::{TypeFault, TypeKind};
+use ax_parse::read_tree;
+use ax_parse_expressions::ReadFault;
+use ax_parse_grammar::tree::{Part, Size, Tree};
+use ax_prog::{Span, Ty};
 use sqlite_items::{Boxed, Items};
 use std::alloc::{AllocError, Global};
 

@@ -1,5 +1,4 @@
-use ax_rank::{Ranker, Score};
-use ax_rankers::{Jaccard, Ochiai, Tarantula};
+use ax_rank::{Jaccard, Ochiai, Ranker, Score, Tarantula};
 use std::alloc::AllocError;
 
 fn score(num: u64, den: u64) -> Score {

@@ -1,8 +1,6 @@
 ghost use Rattle.std.specs.Prelude.{◌+◌, ◌-◌, ◌^◌, ◌%◌, ◌==◌, if◌then◌else◌, codes};
 
-use ax_rank::{Ranker, Score, SeenRun};
-use ax_rankers::{Jaccard, Tarantula};
-use ax_ranking::{Standing, rank};
+use ax_rank::{Jaccard, Ranker, Score, SeenRun, Standing, Tarantula, rank};
 use sqlite_items::Items;
 use std::alloc::{AllocError, Global};
 

@@ -1,10 +1,10 @@
 //! What a source is answered.
 
 use ax_lex::lex;
+use ax_names::resolve;
+use ax_names_types::TypeFault;
+use ax_parse::parse;
 use ax_prog::Program;
-use ax_resolve::resolve;
-use ax_tree::parse;
-use ax_typing::TypeFault;
 use std::alloc::{AllocError, Global};
 
 fn outcome(alloc: Global, found: Result<Program, TypeFault>) -> Result<String, AllocError> {

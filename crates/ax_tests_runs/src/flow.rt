@@ -1,7 +1,6 @@
 //! A program lowered, with its places found by hand.
 
-use ax_flat::Op;
-use ax_flow::{Flow, lower};
+use ax_flow::{Flow, Op, lower};
 use ax_prog::{Fun, FunId, Init, Lval, Program, SlotId, Stmt, Value, VarId};
 use sqlite_items::{Boxed, Items};
 use std::alloc::{AllocError, Global};

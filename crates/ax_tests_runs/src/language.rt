@@ -38,7 +38,7 @@ fn ran(alloc: Global, source: &str, steps: u32) -> Result<String, Fail> {
     let program = program_of(alloc, source)?;
     let flow = lower(alloc, &program)?;
     let flat = run(alloc, &flow, &[3, -2, 7], steps)?;
-    let plain = ax_plain::run(alloc, &program, &[3, -2, 7], steps)?;
+    let plain = ax_interp_plain::run(alloc, &program, &[3, -2, 7], steps)?;
     let found = shown(alloc, &plain)?;
     if shown(alloc, &flat)?.as_str() != found.as_str() || flat.used != plain.used {
         return Err(Fail::from("unlike runs"));
@@ -645,7 +645,7 @@ fn counted(alloc: Global, source: &str, wanted: &[u64]) -> Result<bool, Fail> {
     let program = program_of(alloc, source)?;
     let flow = lower(alloc, &program)?;
     let flat = run(alloc, &flow, &[], 1000)?;
-    let plain = ax_plain::run(alloc, &program, &[], 1000)?;
+    let plain = ax_interp_plain::run(alloc, &program, &[], 1000)?;
     Ok(flat.counts.as_slice() == wanted && plain.counts.as_slice() == wanted)
 }
 

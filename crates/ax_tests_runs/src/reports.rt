@@ -1,7 +1,7 @@
 //! Worked examples of reports.
 
 use crate::texts::{BELOW, MARKS, program_of};
-use ax_report::run;
+use ax_interp_report::run;
 use ax_suite::read_suite;
 use std::test::Fail;
 

@@ -4,8 +4,8 @@
 use crate::texts::{BELOW, program_of};
 use ax_flow::lower;
 use ax_interp::run;
+use ax_interp_plain::{evaluations_of, passes};
 use ax_meaning::{Run, RunEnd, Why};
-use ax_plain::{evaluations_of, passes};
 use ax_prog::copy::copy_stmt;
 use ax_prog::{Fun, FunId, Lval, Program, SlotId, Stmt, Ty, VarId};
 use ax_suite::read_suite;
@@ -34,7 +34,7 @@ fn a_program_passes_its_tests(rt: HostRuntime) -> Result<(), Fail> {
     let wanted = [true, false, false, false, true];
     assert_eq!(rt; suite.tests.len(), wanted.len());
     for (test, wanted) in suite.tests.as_slice().iter().zip(wanted) {
-        let done = ax_plain::run(alloc, &program, test.inputs.as_slice(), 100)?;
+        let done = ax_interp_plain::run(alloc, &program, test.inputs.as_slice(), 100)?;
         assert_eq!(rt; passes(&done, test), wanted);
     }
     Ok(())
@@ -46,12 +46,12 @@ fn a_program_passes_its_tests(rt: HostRuntime) -> Result<(), Fail> {
 fn runs_count_steps_and_evaluations(rt: HostRuntime) -> Result<(), Fail> {
     let alloc = rt.alloc();
     let program = program_of(alloc, BELOW)?;
-    let done = ax_plain::run(alloc, &program, &[1, 2], 100)?;
+    let done = ax_interp_plain::run(alloc, &program, &[1, 2], 100)?;
     assert_eq!(rt; done.used, 7);
     for (slot, evaluations) in [(1, 1), (2, 0), (3, 1)] {
         assert_eq!(rt; evaluations_of(&done, SlotId(slot)), evaluations);
     }
-    let stopped = ax_plain::run(alloc, &program, &[1], 100)?;
+    let stopped = ax_interp_plain::run(alloc, &program, &[1], 100)?;
     assert_eq!(rt; ended(&stopped), (None, Some(Why::NoInput), [].as_slice()));
     assert_eq!(rt; stopped.used, 4);
     Ok(())
@@ -83,7 +83,7 @@ fn calls(alloc: Global, callees: &[u32]) -> Result<Program, AllocError> {
 #[test]
 fn calls_nest_five_hundred_deep(rt: HostRuntime) -> Result<(), Fail> {
     let program = calls(rt.alloc(), &[1, 1])?;
-    let done = ax_plain::run(rt.alloc(), &program, &[], 500)?;
+    let done = ax_interp_plain::run(rt.alloc(), &program, &[], 500)?;
     assert_eq!(rt; done.used, 500);
     assert_eq!(rt; ended(&done), (None, None, [].as_slice()));
     Ok(())
@@ -136,7 +136,7 @@ fn both_use_up(
 ) -> Result<(), AllocError> {
     let flow = lower(alloc, program)?;
     let flat = run(alloc, &flow, &[3], steps)?;
-    let plain = ax_plain::run(alloc, program, &[3], steps)?;
+    let plain = ax_interp_plain::run(alloc, program, &[3], steps)?;
     assert_eq!(rt; (flat.used, plain.used), (steps, steps));
     assert_eq!(rt; ended(&flat), wanted);
     assert_eq!(rt; ended(&plain), wanted);

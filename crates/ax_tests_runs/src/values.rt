@@ -1,8 +1,8 @@
 //! Objects of a store, seen from outside: no source shows where their cells lie, or a place behind an object that has ended.
 
+use ax_interp_values::store::{begin, end_var, int_at, leave, stored_at, write};
 use ax_meaning::{Cell, Extent, Place, Pointer, Store, Why};
 use ax_prog::VarId;
-use ax_values::store::{begin, end_var, int_at, leave, stored_at, write};
 use sqlite_items::Items;
 use std::alloc::{AllocError, Global};
 

@@ -2,7 +2,7 @@
 
 use crate::sat::clause;
 use ax_proof::Clause;
-use ax_renew::{Due, put, renew};
+use ax_sat_policy::{Due, put, renew};
 use ax_watch::Watch;
 use std::test::Fail;
 

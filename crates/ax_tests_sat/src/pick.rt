@@ -1,7 +1,7 @@
 //! The order of variables, and the pace of restarts.
 
-use ax_pick::{Order, Pace};
 use ax_proof::Lit;
+use ax_sat_policy::{Order, Pace};
 use ax_watch::Watch;
 use std::alloc::Global;
 use std::test::Fail;

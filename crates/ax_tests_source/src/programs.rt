@@ -1,7 +1,7 @@
 //! Programs of texts, and why a text has none.
 use ax_front::{SourceFault, read_source};
+use ax_parse::ParseFault;
 use ax_prog::Program;
-use ax_tree::ParseFault;
 use std::alloc::{AllocError, Global};
 
 const P1: &str =

@@ -1,5 +1,5 @@
+use ax_front_facts::lies_in;
 use ax_prog::Span;
-use ax_reads::lies_in;
 
 // in a text of five bytes
 #[test]

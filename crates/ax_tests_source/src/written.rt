@@ -1,6 +1,6 @@
-use ax_back::{is_writable, write_changes};
 use ax_front::read_source;
 use ax_print::{expr_text, splice};
+use ax_print_back::{is_writable, write_changes};
 use ax_prog::copy::copy_expr;
 use ax_prog::same::same_expr;
 use ax_prog::{Atom, Bin, Expr, Lval, SlotId, Un, VarId};

@@ -5,11 +5,11 @@ ghost use Rattle.ax_front.specs.Texts.{IsProgramOfText};
 ghost use Rattle.ax_space.specs.Patches.{PatchCost};
 
 use crate::texts::{COMPARISONS, program_of, with_condition};
+use ax_front_facts::slots_fit;
 use ax_prog::same::same_expr;
 use ax_prog::{Bin, Program, Sets, SlotId};
-use ax_reads::slots_fit;
-use ax_region::Label;
 use ax_space::{Mark, Patch, Position, Space, apply, are_chosen};
+use ax_space_trees::Label;
 use sqlite_items::Items;
 use std::alloc::Global;
 use std::process::Abort;

@@ -2,7 +2,7 @@
 
 ghost use Rattle.std.specs.Prelude.{◌≡◌, ◌≤◌, ◌<◌, ◌^◌};
 
-use ax_blocks::{test_block, word_block};
+use ax_blast::{test_block, word_block};
 use ax_proof::{Cnf, Lit};
 use ax_term::{TestOp, WordOp};
 use std::alloc::Global;

@@ -1,11 +1,11 @@
 //! Operators of C, at word symbols that take the operands' values.
 ghost use Rattle.std.specs.Prelude.{◌≡◌, IfOk};
 ghost use Rattle.ax_term.specs.Bank.{Stay};
-ghost use Rattle.ax_operators.specs.Meaning.{HasBoth};
+ghost use Rattle.ax_term_c.specs.Meaning.{HasBoth};
 
-use ax_operators::{Known, any, binary, choose, inside, nonzero, number, unary};
 use ax_prog::{Bin, Un};
 use ax_term::{Bank, Valuation, value};
+use ax_term_c::{Known, any, binary, choose, inside, nonzero, number, unary};
 use std::alloc::{AllocError, Global};
 use std::collections::BTreeMap;
 use std::test::Fail;

@@ -2,10 +2,9 @@
 
 ghost use Rattle.std.specs.Prelude.{◌≡◌, IfOk};
 ghost use Rattle.ax_term.specs.Bank.{Among, HasFlag, HasWord, Stay};
-ghost use Rattle.ax_order.specs.Order.{AllAmong};
+ghost use Rattle.ax_term.specs.Order.{AllAmong};
 
-use ax_order::order;
-use ax_term::{Bank, Term, TestOp, Valuation, WordOp, value};
+use ax_term::{Bank, Term, TestOp, Valuation, WordOp, order, value};
 use std::alloc::AllocError;
 use std::collections::BTreeMap;
 use std::test::Fail;

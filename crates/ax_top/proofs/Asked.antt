@@ -14,9 +14,9 @@ use Rattle.ax_least.specs.Least.{IsRepair}
 use Rattle.ax_front.specs.Texts.{IsProgramOfText}
 use Rattle.ax_front.proofs.Refusals.{one_program_of_text}
 use Rattle.ax_suite.proofs.Single.{one_suite}
-use Rattle.ax_coverage.specs.Handed.{Handed, ranker_named}
-use Rattle.ax_coverage.specs.Orders.{IsOrderOf, OneCandidateOrder, first_numbers}
-use Rattle.ax_ranking.specs.declared.places.Standing.{Standing}
+use Rattle.ax_rank_coverage.specs.Handed.{Handed, ranker_named}
+use Rattle.ax_rank_coverage.specs.Orders.{IsOrderOf, OneCandidateOrder, first_numbers}
+use Rattle.ax_rank.specs.declared.places.Standing.{Standing}
 use Rattle.ax_outside.specs.Seen.{IsWhole, Seen, Told}
 use Rattle.ax_words.specs.Laws.{SameChoice, SameRepair}
 use Rattle.ax_words.specs.Words.{Says}

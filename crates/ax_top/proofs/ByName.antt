@@ -4,8 +4,8 @@ use Rattle.std.specs.Prelude.{Result, Ok, Err, IfOk, slice_get, string_bytes}
 use Rattle.ax_prog.specs.declared.Program.{Program}
 use Rattle.ax_prog.specs.declared.Suite.{Suite}
 use Rattle.ax_prog.specs.declared.Test.{Test}
-use Rattle.ax_coverage.specs.Handed.{Handed, ranker_at, ranker_named}
-use Rattle.ax_coverage.specs.Orders.{Chooses}
+use Rattle.ax_rank_coverage.specs.Handed.{Handed, ranker_at, ranker_named}
+use Rattle.ax_rank_coverage.specs.Orders.{Chooses}
 use Rattle.ax_outside.specs.Seen.{Seen}
 use Rattle.ax_top.specs.declared.files.Stop.{Stop}
 use Rattle.ax_top.specs.declared.telling.Told.{Told}

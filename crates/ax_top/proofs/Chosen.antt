@@ -22,8 +22,8 @@ use Rattle.ax_least.specs.Least.{IsRepair}
 use Rattle.ax_repair.specs.Outcomes.{IsRepaired}
 use Rattle.ax_repair.specs.Written.{is_changed, written}
 use Rattle.ax_repair.specs.declared.Repaired.{Repaired}
-use Rattle.ax_mended.specs.Reading.{PatchesAreWritable, PassesBack, RepairedPasses, StaysAtCost0}
-use Rattle.ax_coverage.specs.Handed.{Handed}
+use Rattle.ax_repair_laws.specs.Reading.{PatchesAreWritable, PassesBack, RepairedPasses, StaysAtCost0}
+use Rattle.ax_rank_coverage.specs.Handed.{Handed}
 use Rattle.ax_outside.specs.Seen.{Seen}
 use Rattle.ax_words.specs.declared.order.RepairOrder.{RepairOrder}
 use Rattle.ax_top.specs.declared.answer.Answer.{Answer}

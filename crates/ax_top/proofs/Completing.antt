@@ -6,8 +6,8 @@ use Rattle.ax_prog.specs.declared.SlotId.{SlotId}
 use Rattle.ax_prog.specs.declared.Suite.{Suite}
 use Rattle.ax_space.specs.declared.Patch.{Patch}
 use Rattle.ax_least.specs.Least.{IsRepair, NoRepair}
-use Rattle.ax_coverage.specs.Handed.{Handed}
-use Rattle.ax_coverage.specs.Orders.{OneCandidateOrder}
+use Rattle.ax_rank_coverage.specs.Handed.{Handed}
+use Rattle.ax_rank_coverage.specs.Orders.{OneCandidateOrder}
 use Rattle.ax_outside.specs.Seen.{Adds, AddsPart, NoLess, Rose, Seen}
 use Rattle.ax_words.specs.declared.order.Order.{Order}
 use Rattle.ax_words.specs.declared.order.Order.TheVariants.{Check, Gen, Prove, Rank, Repair, Run}

@@ -4,7 +4,7 @@ use Rattle.std.specs.Str.{bytes_eq}
 use Rattle.std.specs.Prelude.{slice_index_or, nat_lt}
 use Rattle.std.proofs.lemmas.List.Sums.{position_or_len_is}
 use Rattle.std.proofs.lemmas.List.{get_or-map, length-map}
-use Rattle.ax_coverage.specs.Handed.{Handed, handed, ranker_at}
+use Rattle.ax_rank_coverage.specs.Handed.{Handed, handed, ranker_at}
 
 -- a ranker of no name
 abbrev pub nobody : Handed

@@ -1,7 +1,7 @@
 -- The headline, and what stays, from what the program does.
 use Rattle.std.proofs.Common.{◌≡◌, ◌∙◌, ◌≤◌, ℕ, List, inl, inr, sym, subst, string_bytes, arith}
 use Rattle.std.specs.Prelude.{◌⊎◌, Ok}
-use Rattle.ax_coverage.specs.Handed.{Handed}
+use Rattle.ax_rank_coverage.specs.Handed.{Handed}
 use Rattle.ax_outside.specs.Seen.{Adds, AddsPart, Holds, Rose, Seen}
 use Rattle.ax_outside.proofs.Steps.{no_less-then}
 use Rattle.ax_words.specs.declared.order.Order.{Order}

@@ -3,7 +3,7 @@ use Rattle.std.proofs.Common.{◌≡◌, ◌∙◌, ◌≤◌, ℕ, List, [], sy
 use Rattle.std.specs.Prelude.{◌⊎◌, Result, Ok, Err}
 use Rattle.ax_dimacs.specs.Clauses.{Formula, formula_of}
 use Rattle.ax_prove.specs.Outcomes.{HasModel}
-use Rattle.ax_coverage.specs.Handed.{Handed}
+use Rattle.ax_rank_coverage.specs.Handed.{Handed}
 use Rattle.ax_outside.specs.Seen.{Adds, AddsPart, Rose, Seen}
 use Rattle.ax_words.specs.declared.order.Order.{Order}
 use Rattle.ax_words.specs.declared.order.Order.TheVariants.{Check, Gen, Prove, Rank, Repair, Run}

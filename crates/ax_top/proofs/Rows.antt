@@ -1,7 +1,7 @@
 -- From how an order ends to what the program does.
 use Rattle.std.proofs.Common.{◌≡◌, ℕ, List, inl, inr, map, string_bytes, subst, String, Global}
 use Rattle.std.specs.Prelude.{Result, Ok, Err}
-use Rattle.ax_coverage.specs.Handed.{Handed}
+use Rattle.ax_rank_coverage.specs.Handed.{Handed}
 use Rattle.ax_outside.specs.Seen.{NoLess, Same, Seen}
 use Rattle.ax_outside.proofs.Steps.{no_less-then, same-then}
 use Rattle.ax_words.specs.declared.order.Order.{Order}

@@ -4,8 +4,8 @@ use Rattle.std.specs.Prelude.{Result, Ok, Err, Some}
 use Rattle.ax_prog.specs.declared.Program.{Program}
 use Rattle.ax_prog.specs.declared.Suite.{Suite}
 use Rattle.ax_prog.specs.declared.Test.{Test}
-use Rattle.ax_report.specs.Outcomes.{IsStatus}
-use Rattle.ax_coverage.specs.Handed.{Handed, ranker_at, ranker_named}
+use Rattle.ax_interp_report.specs.Outcomes.{IsStatus}
+use Rattle.ax_rank_coverage.specs.Handed.{Handed, ranker_at, ranker_named}
 use Rattle.ax_outside.specs.Seen.{Seen}
 use Rattle.ax_words.specs.declared.order.Order.{Order}
 use Rattle.ax_words.specs.declared.order.Order.TheVariants.{Check, Gen, Prove, Rank, Repair, Run}

@@ -14,8 +14,8 @@ use Rattle.ax_front.specs.declared.SourceFault.TheVariants as front
 use Rattle.ax_suite.specs.Suites.{Reads}
 use Rattle.ax_suite.proofs.Single.{suites_have_no_fault}
 use Rattle.ax_outside.specs.Seen.{NoLess, OnKept, Rose, Seen, Told}
-use Rattle.ax_coverage.specs.Handed.{Handed, ranker_at, ranker_named}
-use Rattle.ax_coverage.specs.Orders.{OneCandidateOrder}
+use Rattle.ax_rank_coverage.specs.Handed.{Handed, ranker_at, ranker_named}
+use Rattle.ax_rank_coverage.specs.Orders.{OneCandidateOrder}
 use Rattle.ax_words.specs.Laws.{SameChoice, SameRepair}
 use Rattle.ax_words.specs.declared.order.Choice.{Choice}
 use Rattle.ax_words.specs.declared.order.Choice.TheVariants.{Pick, Top}

@@ -1,7 +1,7 @@
 -- Each status, with its cause. There is no other status.
 use Rattle.std.specs.Prelude.{◌≡◌, ◌≢◌, ◌⊎◌, ℕ, List, Ok, Err, String, string_bytes}
 use Rattle.std.specs.Global.{Global}
-use Rattle.ax_coverage.specs.Handed.{Handed}
+use Rattle.ax_rank_coverage.specs.Handed.{Handed}
 use Rattle.ax_outside.specs.Seen.{NoLess, Same, Seen}
 use Rattle.ax_words.specs.declared.order.Order.{Order}
 use Rattle.ax_words.specs.declared.order.Order.TheVariants.{Prove, Repair}
@@ -16,7 +16,7 @@ use Rattle.ax_top.specs.Ends.{Stops}
 use Rattle.ax_top.specs.Proving.{DoesProve}
 use Rattle.ax_top.specs.Repairs.{Answers}
 use Rattle.ax_top.specs.Telling.{Tells}
-use Rattle.ax_refusals.specs.Texts.{words_report}
+use Rattle.ax_top_texts.specs.Texts.{words_report}
 use Rattle.ax_top.specs.Reports.{Finishes, stop_report, stop_status}
 
 -- What the program does, over these rankers: want of memory, after which nothing is printed; or the words are refused,

@@ -3,8 +3,8 @@ use Rattle.std.specs.Prelude.{◌≡◌, ℕ, List, None, Some, string_bytes}
 use Rattle.ax_prog.specs.declared.Program.{Program}
 use Rattle.ax_prog.specs.declared.SlotId.{SlotId}
 use Rattle.ax_prog.specs.declared.Test.{Test}
-use Rattle.ax_coverage.specs.Handed.{Handed, ranker_named}
-use Rattle.ax_coverage.specs.Orders.{Chooses}
+use Rattle.ax_rank_coverage.specs.Handed.{Handed, ranker_named}
+use Rattle.ax_rank_coverage.specs.Orders.{Chooses}
 use Rattle.ax_words.specs.declared.order.Choice.{Choice}
 use Rattle.ax_words.specs.declared.order.Choice.TheVariants.{Pick, Top}
 use Rattle.ax_words.specs.declared.order.RepairOrder.{RepairOrder}

@@ -7,7 +7,7 @@ use Rattle.ax_space.specs.declared.Patch.{Patch}
 use Rattle.ax_least.specs.Least.{IsRepair, NoRepair}
 use Rattle.ax_front.specs.Texts.{IsProgramOfText, KeepsLimits}
 use Rattle.ax_suite.specs.Suites.{IsSuite}
-use Rattle.ax_coverage.specs.Handed.{Handed}
+use Rattle.ax_rank_coverage.specs.Handed.{Handed}
 use Rattle.ax_outside.specs.Seen.{Rose, Seen}
 use Rattle.ax_words.specs.declared.order.Order.TheVariants.{Repair}
 use Rattle.ax_words.specs.declared.order.RepairOrder.{RepairOrder}

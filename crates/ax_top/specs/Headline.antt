@@ -6,8 +6,8 @@ use Rattle.ax_prog.specs.declared.Suite.{Suite}
 use Rattle.ax_space.specs.declared.Patch.{Patch}
 use Rattle.ax_least.specs.Least.{IsLeastRepair, NoRepair}
 use Rattle.ax_repair.specs.Written.{written}
-use Rattle.ax_mended.specs.Reading.{PassesBack}
-use Rattle.ax_coverage.specs.Handed.{Handed}
+use Rattle.ax_repair_laws.specs.Reading.{PassesBack}
+use Rattle.ax_rank_coverage.specs.Handed.{Handed}
 use Rattle.ax_outside.specs.Seen.{Adds, Holds, Rose, Seen}
 use Rattle.ax_words.specs.declared.order.Order.{Order}
 use Rattle.ax_words.specs.declared.order.Order.TheVariants.{Repair}

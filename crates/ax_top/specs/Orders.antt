@@ -4,7 +4,7 @@ use Rattle.std.specs.List.{find}
 use Rattle.ax_prog.specs.declared.Program.{Program}
 use Rattle.ax_prog.specs.declared.Suite.{Suite}
 use Rattle.ax_prog.specs.Candidates.{candidates_of}
-use Rattle.ax_coverage.specs.Handed.{Handed, ranker_at}
+use Rattle.ax_rank_coverage.specs.Handed.{Handed, ranker_at}
 use Rattle.ax_outside.specs.Seen.{Seen}
 use Rattle.ax_words.specs.declared.order.Choice.{Choice}
 use Rattle.ax_words.specs.declared.order.Choice.TheVariants.{Pick, Top}

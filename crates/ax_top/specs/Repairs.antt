@@ -10,8 +10,8 @@ use Rattle.ax_print.specs.Text.{text_of}
 use Rattle.ax_space.specs.declared.Patch.{Patch}
 use Rattle.ax_least.specs.Least.{IsLeastRepair, NoRepair}
 use Rattle.ax_repair.specs.Written.{is_changed, written}
-use Rattle.ax_mended.specs.Reading.{PassesBack}
-use Rattle.ax_coverage.specs.Handed.{Handed}
+use Rattle.ax_repair_laws.specs.Reading.{PassesBack}
+use Rattle.ax_rank_coverage.specs.Handed.{Handed}
 use Rattle.ax_outside.specs.Seen.{Seen}
 use Rattle.ax_words.specs.declared.order.RepairOrder.{RepairOrder}
 use Rattle.ax_top.specs.declared.answer.Answer.{Answer}

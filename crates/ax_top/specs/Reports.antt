@@ -2,7 +2,7 @@
 use Rattle.std.specs.Prelude.{◌≡◌, ◌⊎◌, ◌++◌, ℕ, List, [], codes, string_bytes}
 use Rattle.std.specs.Fmt.{decimal}
 use Rattle.ax_outside.specs.Seen.{Adds, AddsPart, NoLess, Rose, Seen}
-use Rattle.ax_refusals.specs.Texts.{source_report, suite_report}
+use Rattle.ax_top_texts.specs.Texts.{source_report, suite_report}
 use Rattle.ax_words.specs.declared.order.Order.{Order}
 use Rattle.ax_words.specs.declared.order.Order.TheVariants.{Check, Gen, Prove, Rank, Repair, Run}
 use Rattle.ax_top.specs.declared.files.File.{File}

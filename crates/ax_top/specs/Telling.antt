@@ -2,9 +2,9 @@
 use Rattle.std.specs.Prelude.{◌≡◌, ℕ, List, Some, Result, Ok, Err, string_bytes}
 use Rattle.ax_prog.specs.declared.Program.{Program}
 use Rattle.ax_prog.specs.declared.Suite.{Suite}
-use Rattle.ax_report.specs.Outcomes.{IsOutcome}
-use Rattle.ax_coverage.specs.Handed.{Handed, ranker_named}
-use Rattle.ax_coverage.specs.Orders.{IsRanked}
+use Rattle.ax_interp_report.specs.Outcomes.{IsOutcome}
+use Rattle.ax_rank_coverage.specs.Handed.{Handed, ranker_named}
+use Rattle.ax_rank_coverage.specs.Orders.{IsRanked}
 use Rattle.ax_outside.specs.Seen.{Seen}
 use Rattle.ax_words.specs.declared.order.Order.{Order}
 use Rattle.ax_words.specs.declared.order.Order.TheVariants.{Rank, Run}

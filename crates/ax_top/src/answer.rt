@@ -1,7 +1,7 @@
 //! The search for a repair, and the report of what it finds.
 ghost use Rattle.std.specs.Prelude.{◌≡◌, ◌≤◌, ◌∷◌, ◌++◌, [], IfOk, codes, map, string_bytes};
 ghost use Rattle.std.specs.Fmt.{decimal};
-ghost use Rattle.ax_coverage.specs.Handed.{handed};
+ghost use Rattle.ax_rank_coverage.specs.Handed.{handed};
 ghost use Rattle.ax_front.specs.Texts.{IsProgramOfText};
 ghost use Rattle.ax_repair.specs.Written.{is_changed};
 ghost use Rattle.ax_top.specs.Built.{IsPicked};
@@ -12,12 +12,12 @@ use crate::built::{Picked, picked_of};
 use crate::choosing::chosen_numbers;
 use crate::files::Stop;
 use crate::telling::Told;
-use ax_mended::{patches_are_writable, repaired_passes, stays_at_cost_0};
 use ax_print::expr_text;
 use ax_prog::same::same_expr;
 use ax_prog::{Expr, Program, SlotId, Suite};
 use ax_rank::Ranker;
 use ax_repair::{Outcome, Repaired};
+use ax_repair_laws::{patches_are_writable, repaired_passes, stays_at_cost_0};
 use ax_words::RepairOrder;
 use sqlite_items::Items;
 use std::alloc::{AllocError, Global};

@@ -1,6 +1,6 @@
 //! The top call.
 ghost use Rattle.std.specs.Prelude.{map, string_bytes};
-ghost use Rattle.ax_coverage.specs.Handed.{handed};
+ghost use Rattle.ax_rank_coverage.specs.Handed.{handed};
 ghost use Rattle.ax_top.specs.Causes.{Does, Keeps, OrderStopped, WordsRefused};
 ghost use Rattle.ax_top.specs.Complete.{Complete};
 ghost use Rattle.ax_top.specs.Headline.{Headline};
@@ -11,10 +11,10 @@ use crate::files::Stop;
 use crate::orders::result_of;
 use crate::proving::prove;
 use crate::report::{print_refusal, status_of, stop_text};
-use ax_coverage::one_candidate_order;
 use ax_outside::Shelf;
 use ax_rank::Ranker;
-use ax_refusals::words_text;
+use ax_rank_coverage::one_candidate_order;
+use ax_top_texts::words_text;
 use ax_words::{Order, WordFault, read_words};
 use std::alloc::Global;
 

@@ -1,13 +1,13 @@
 //! Which expressions an order to repair chooses, by their numbers.
 ghost use Rattle.std.specs.Prelude.{◌≡◌, IfOk, map};
-ghost use Rattle.ax_coverage.specs.Handed.{handed};
+ghost use Rattle.ax_rank_coverage.specs.Handed.{handed};
 ghost use Rattle.ax_top.specs.Choices.{ChoosesNumbers, IsChoice};
 ghost use Rattle.ax_top.specs.Orders.{HasRanker};
 
 use crate::rankers::place_of;
-use ax_coverage::choose_in;
 use ax_prog::{Program, Test};
 use ax_rank::Ranker;
+use ax_rank_coverage::choose_in;
 use ax_words::{Choice, RepairOrder};
 use sqlite_items::Items;
 use std::alloc::{AllocError, Global};

@@ -1,6 +1,6 @@
 //! The orders, command by command: what each comes to, or what stops it.
 ghost use Rattle.std.specs.Prelude.{◌≡◌, ◌≤◌, map, string_bytes};
-ghost use Rattle.ax_coverage.specs.Handed.{handed};
+ghost use Rattle.ax_rank_coverage.specs.Handed.{handed};
 ghost use Rattle.ax_outside.specs.Seen.{NoLess, Same};
 ghost use Rattle.ax_top.specs.Orders.{CheckStops, ChoiceJudged, PicksJudged, RepairJudged, first_beyond, numbers_of};
 ghost use Rattle.ax_top.specs.Ends.{Ends, GrowsLittle, IsOther, told_answer};

@@ -1,7 +1,7 @@
 //! The handed-in rankers.
 ghost use Rattle.std.specs.Prelude.{◌≡◌, ◌<◌, IfOk, IfSome, length, map};
 ghost use Rattle.std.specs.Str.{bytes_eq};
-ghost use Rattle.ax_coverage.specs.Handed.{handed, ranker_at};
+ghost use Rattle.ax_rank_coverage.specs.Handed.{handed, ranker_at};
 ghost use Rattle.ax_top.specs.Orders.{RankerJudged};
 
 use crate::files::Stop;

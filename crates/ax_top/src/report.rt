@@ -5,7 +5,7 @@ ghost use Rattle.ax_top.specs.Reports.{Finishes, candidate_report, file_report, 
 
 use crate::files::{File, Stop};
 use ax_outside::Shelf;
-use ax_refusals::{source_text, suite_text};
+use ax_top_texts::{source_text, suite_text};
 use ax_words::Order;
 use std::alloc::{AllocError, Global};
 

@@ -1,17 +1,17 @@
 //! Orders of which only a report comes: to run and to rank.
 ghost use Rattle.std.specs.Prelude.{◌≡◌, ◌<◌, Some, length, map, slice_get};
-ghost use Rattle.ax_coverage.specs.Handed.{Handed, handed};
+ghost use Rattle.ax_rank_coverage.specs.Handed.{Handed, handed};
 ghost use Rattle.ax_outside.specs.Seen.{NoLess, Same};
 ghost use Rattle.ax_top.specs.Telling.{RankEnds, RankTold, RunEnds, RunTold};
 
 use crate::files::Stop;
 use crate::judging::judge_files;
 use crate::rankers::judge_ranker;
-use ax_coverage::report_in;
+use ax_interp_report::Outcome;
 use ax_outside::Shelf;
 use ax_prog::{Program, Suite};
 use ax_rank::Ranker;
-use ax_report::Outcome;
+use ax_rank_coverage::report_in;
 use sqlite_items::Items;
 use std::alloc::Global;
 
@@ -25,7 +25,7 @@ pub struct Told {
 fn run_told(alloc: Global, program: &Program, suite: &Suite, steps: u32) -> Result<Told, Stop>
     ensures { RunTold program.now suite.now steps result }
 {
-    match ax_report::run(alloc, program, suite, steps) {
+    match ax_interp_report::run(alloc, program, suite, steps) {
         Ok(Outcome { report, status }) => Ok(Told {
             report: Items::from_vec(report),
             status,

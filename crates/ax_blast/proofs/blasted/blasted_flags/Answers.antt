@@ -3,7 +3,7 @@ use Rattle.std.specs.Global.{Vec}
 use Rattle.std.proofs.lemmas.List.{length-map}
 use Rattle.ax_proof.specs.Literal.{Literal}
 use Rattle.ax_gates.specs.Gates.{as_clauses}
-use Rattle.ax_order.specs.Order.{trees, trees_at, AllBelow}
+use Rattle.ax_term.specs.Order.{trees, trees_at, AllBelow}
 use Rattle.ax_blast.specs.Blasting.{units}
 use Rattle.ax_blast.specs.Table.{table_of, AllFlagRows, row_flags}
 use Rattle.ax_blast.proofs.Tables.{flag_rows, made}

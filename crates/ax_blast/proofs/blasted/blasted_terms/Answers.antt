@@ -1,8 +1,8 @@
 use Rattle.std.proofs.Common.{◌≡◌, ℕ, ◌+◌, ◌*◌, ◌<◌, ◌≤◌, [], List, Some, length, replicate, drop, slice_get, slice_index_or, ap, sym, subst, ◌∙◌, arith}
 use Rattle.std.specs.Option.{option_copied}
 use Rattle.ax_term.specs.Numbered.{tree}
-use Rattle.ax_order.specs.Order.{trees_at}
-use Rattle.ax_order.proofs.Walks.{get_some}
+use Rattle.ax_term.specs.Order.{trees_at}
+use Rattle.ax_term.proofs.Walks.{get_some}
 use Rattle.ax_blast.specs.Table.{table_of}
 use Rattle.ax_blast.proofs.Bound.{few_vars_of}
 use Rattle.ax_blast.proofs.Tables.{starts, item_below, rest_below, next_under, sized_now, goes_on}

@@ -1,5 +1,5 @@
 use Rattle.std.proofs.Common.{◌≤◌, ◌+◌, ◌*◌, drop, length}
-use Rattle.ax_order.specs.Order.{trees_at, AllBelow}
+use Rattle.ax_term.specs.Order.{trees_at, AllBelow}
 use Rattle.ax_blast.specs.Table.{table_of}
 use Rattle.ax_blast.proofs.Tables.{Underway}
 use Rattle.ax_blast.proofs.blasted.blasted_terms.Given as goal

@@ -1,6 +1,6 @@
 use Rattle.std.proofs.Common.{ℕ, ◌+◌, ◌*◌, ◌≤◌, length, subst}
 use Rattle.std.proofs.lemmas.Result.{IfOk-weaker}
-use Rattle.ax_order.specs.Order.{trees, order_of}
+use Rattle.ax_term.specs.Order.{trees, order_of}
 use Rattle.ax_blast.proofs.Valuations.{blasted_extends, blasted_bound, blasted_over, length-trees}
 use Rattle.ax_blast.proofs.blasted.clauses.Goals as goal
 

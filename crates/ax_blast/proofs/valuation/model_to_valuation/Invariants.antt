@@ -1,7 +1,7 @@
 use Rattle.std.proofs.Common.{ℕ, ◌<◌, [], slice_index_or, length}
 use Rattle.ax_proof.specs.Assignment.{assigned}
 use Rattle.ax_term.specs.Valuation.{interpretation_of}
-use Rattle.ax_order.specs.Order.{tree_at}
+use Rattle.ax_term.specs.Order.{tree_at}
 use Rattle.ax_blast.specs.Blasting.{Reads}
 use Rattle.ax_blast.specs.Table.{table_of}
 use Rattle.ax_blast.proofs.valuation.model_to_valuation.Given as goal

@@ -1,5 +1,5 @@
 use Rattle.std.proofs.Common.{◌≡◌, ◌+◌, ◌++◌, [], drop, length}
-use Rattle.ax_flat.specs.Drafts.{body_draft}
+use Rattle.ax_flow.specs.Drafts.{body_draft}
 use Rattle.ax_flow.proofs.lowering.body_code.Given as goal
 
 abbrev pub invariant-loop-stmt : goal.invariant-loop-stmt

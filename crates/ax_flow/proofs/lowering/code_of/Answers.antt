@@ -1,7 +1,7 @@
 use Rattle.std.proofs.Common.{◌≡◌, refl, ap, ◌∙◌, ◌<◌, List, [], ◌∷◌, ◌++◌, length, arith}
 use Rattle.ax_prog.specs.declared.Fun.{Fun}
-use Rattle.ax_flat.specs.declared.Op.{Op}
-use Rattle.ax_flat.specs.Drafts.{fun_code}
+use Rattle.ax_flow.specs.declared.Op.{Op}
+use Rattle.ax_flow.specs.Drafts.{fun_code}
 use Rattle.ax_flow.proofs.Functions.{codes_step, places_step}
 use Rattle.ax_flow.proofs.lowering.code_of.Goals as goal
 

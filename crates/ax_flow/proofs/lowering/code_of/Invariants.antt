@@ -1,5 +1,5 @@
 use Rattle.std.proofs.Common.{◌≡◌, ◌++◌, drop, length}
-use Rattle.ax_flat.specs.Drafts.{funs_code, funs_starts}
+use Rattle.ax_flow.specs.Drafts.{funs_code, funs_starts}
 use Rattle.ax_flow.proofs.lowering.code_of.Given as goal
 
 abbrev pub invariant-loop-fun : goal.invariant-loop-fun

@@ -1,5 +1,5 @@
 use Rattle.std.proofs.Common.{◌≡◌, ◌++◌, map, reverse, length}
-use Rattle.ax_flat.specs.Drafts.{closed}
+use Rattle.ax_flow.specs.Drafts.{closed}
 use Rattle.ax_flow.proofs.ops.closed_backwards.Given as goal
 
 abbrev pub invariant-drafts : goal.invariant-drafts

@@ -1,5 +1,5 @@
 use Rattle.std.proofs.Common.{arith}
-use Rattle.ax_flat.specs.Drafts.{filled}
+use Rattle.ax_flow.specs.Drafts.{filled}
 use Rattle.ax_flow.proofs.Filling.{mapped_step}
 use Rattle.ax_flow.proofs.ops.fill.Goals as goal
 

@@ -1,5 +1,5 @@
 use Rattle.std.proofs.Common.{◌≡◌, ◌++◌, take, drop, map, length}
-use Rattle.ax_flat.specs.Drafts.{filled}
+use Rattle.ax_flow.specs.Drafts.{filled}
 use Rattle.ax_flow.proofs.ops.fill.Given as goal
 
 abbrev pub invariant-loop-at : goal.invariant-loop-at

@@ -1,5 +1,5 @@
 use Rattle.std.proofs.Common.{◌≡◌, drop}
-use Rattle.ax_flat.specs.Drafts.{block_declared}
+use Rattle.ax_flow.specs.Drafts.{block_declared}
 use Rattle.ax_flow.proofs.ops.with_all_declared.Given as goal
 
 abbrev pub invariant-loop-item : goal.invariant-loop-item

@@ -1,6 +1,6 @@
 use Rattle.std.proofs.Common.{◌≡◌, ◌+◌, [], refl, ap, length}
-use Rattle.ax_flat.specs.Drafts.{draft_of, block_draft, block_declared, optional_draft}
-use Rattle.ax_flat.proofs.Layers.{draft_of-If, draft_of-If_else, draft_of-While, draft_of-For}
+use Rattle.ax_flow.specs.Drafts.{draft_of, block_draft, block_declared, optional_draft}
+use Rattle.ax_flow.proofs.Layers.{draft_of-If, draft_of-If_else, draft_of-While, draft_of-For}
 use Rattle.ax_flow.proofs.Loops.{for_done}
 use Rattle.ax_flow.proofs.statements.+lowering.Goals as goal
 

@@ -1,5 +1,5 @@
 use Rattle.std.proofs.Common.{◌≡◌, ◌+◌, ◌++◌, drop, length}
-use Rattle.ax_flat.specs.Drafts.{block_draft}
+use Rattle.ax_flow.specs.Drafts.{block_draft}
 use Rattle.ax_flow.proofs.statements.+lowering.Given as goal
 
 abbrev pub invariant-block-loop-item : goal.invariant-block-loop-item

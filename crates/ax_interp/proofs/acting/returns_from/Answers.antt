@@ -1,5 +1,5 @@
 use Rattle.ax_meaning.specs.Acts.{give}
-use Rattle.ax_acts.specs.Sources.{source_of}
+use Rattle.ax_interp_acts.specs.Sources.{source_of}
 use Rattle.ax_interp.specs.Moves.{setting_of}
 use Rattle.ax_interp.proofs.Kept.{give_keeps, from_source, done_ended}
 use Rattle.ax_interp.proofs.acting.returns_from.Goals as goal

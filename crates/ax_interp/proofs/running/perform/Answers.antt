@@ -1,7 +1,7 @@
 use Rattle.std.proofs.Common.{◌≡◌, Some}
 use Rattle.std.proofs.lemmas.Result.{IfOk-weaker}
-use Rattle.ax_flat.specs.Machine.{act}
-use Rattle.ax_flat.specs.declared.Op.TheVariants.{Decl, Call, End}
+use Rattle.ax_flow.specs.Machine.{act}
+use Rattle.ax_flow.specs.declared.Op.TheVariants.{Decl, Call, End}
 use Rattle.ax_interp.specs.Moves.{here_of, move_of, setting_of}
 use Rattle.ax_interp.specs.Gaps.{StillEnded}
 use Rattle.ax_interp.proofs.Kept.{still_ended}

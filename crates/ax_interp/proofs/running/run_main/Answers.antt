@@ -1,5 +1,5 @@
 use Rattle.std.proofs.Common.{◌≡◌, refl, ap, ◌∙◌, subst, IfOk}
-use Rattle.ax_flat.specs.Machine.{final, final_of}
+use Rattle.ax_flow.specs.Machine.{final, final_of}
 use Rattle.ax_meaning.specs.Runs.{outcome_of}
 use Rattle.ax_interp.specs.Moves.{ending_of, setting_of}
 use Rattle.ax_interp.proofs.Ops.{inputs_at_start}

@@ -1,5 +1,5 @@
 use Rattle.std.proofs.Common.{◌≡◌, IsTrue, subst, sym}
-use Rattle.ax_flat.specs.Machine.{final, Go, stays, move, Comes}
+use Rattle.ax_flow.specs.Machine.{final, Go, stays, move, Comes}
 use Rattle.ax_interp.specs.Moves.{ending_of, here_of, move_of, setting_of}
 use Rattle.ax_interp.specs.Gaps.{StillEnded}
 use Rattle.ax_interp.proofs.Ops.{stops_within, ops_of_run, stops_on, left_falls, stops_here, goes_on, run_stops, comes_as_run, is_finished, code_of_program, starts_of_program}

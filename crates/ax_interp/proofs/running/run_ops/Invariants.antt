@@ -1,5 +1,5 @@
 use Rattle.std.proofs.Common.{IsTrue}
-use Rattle.ax_flat.specs.Machine.{Final, Go, Comes}
+use Rattle.ax_flow.specs.Machine.{Final, Go, Comes}
 use Rattle.ax_interp.specs.Moves.{setting_of, here_of}
 use Rattle.ax_interp.specs.Gaps.{AllEnded}
 use Rattle.ax_interp.proofs.Ops.{stops_within, ops_left, ops_of_run}

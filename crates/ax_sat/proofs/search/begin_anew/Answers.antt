@@ -1,5 +1,5 @@
 use Rattle.std.proofs.Common.{refl}
-use Rattle.ax_renew.proofs.Cores.{core_itself}
+use Rattle.ax_sat_policy.proofs.Cores.{core_itself}
 use Rattle.ax_sat.proofs.Decisions.{stands_start, asks_start}
 use Rattle.ax_sat.proofs.search.begin_anew.Goals as goal
 

@@ -1,6 +1,6 @@
 use Rattle.std.proofs.Common.{ap, ◌≡◌, ◌++◌, [], ◌∙◌, arith, List, length, true}
 use Rattle.ax_proof.specs.Literal.{Literal}
-use Rattle.ax_renew.proofs.Cores.{core_itself, core_of_core}
+use Rattle.ax_sat_policy.proofs.Cores.{core_itself, core_of_core}
 use Rattle.ax_sat.specs.Marks.{MarksState}
 use Rattle.ax_sat.proofs.Watches.{vars_kept, over_along, all_over}
 use Rattle.ax_sat.proofs.Logging.{logs_start, logs_go_on, ended_log, ended_answer, spends, model_kept}

@@ -1,5 +1,5 @@
 use Rattle.std.proofs.Common.{◌≡◌, ◌+◌, ◌++◌, length}
-use Rattle.ax_renew.specs.Core.{IsCore}
+use Rattle.ax_sat_policy.specs.Core.{IsCore}
 use Rattle.ax_sat.specs.Levels.{Stands, Asks}
 use Rattle.ax_sat.specs.Search.{Logs}
 use Rattle.ax_sat.proofs.search.learn_lines.Given as goal

@@ -1,4 +1,4 @@
-use Rattle.ax_renew.proofs.Cores.{core_itself, core_of_core}
+use Rattle.ax_sat_policy.proofs.Cores.{core_itself, core_of_core}
 use Rattle.ax_sat.proofs.search.prepare.Goals as goal
 
 pub returns-clause-core : goal.returns-clause-core

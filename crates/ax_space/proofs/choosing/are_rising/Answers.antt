@@ -1,5 +1,5 @@
 use Rattle.std.proofs.Common.{get_or, refl}
-use Rattle.ax_region.proofs.Members.{no-false}
+use Rattle.ax_space_trees.proofs.Members.{no-false}
 use Rattle.ax_space.proofs.Slices.{item-is}
 use Rattle.ax_space.proofs.Rising.{risen-none, risen-more, risen-all, risen-false}
 use Rattle.ax_space.proofs.choosing.are_rising.Goals as goal

@@ -1,5 +1,5 @@
 use Rattle.std.proofs.Common.{sym, ◌∙◌}
-use Rattle.ax_region.proofs.Members.{no-false}
+use Rattle.ax_space_trees.proofs.Members.{no-false}
 use Rattle.ax_space.proofs.Rising.{small-candidate, candidate-small, no-candidate}
 use Rattle.ax_space.proofs.choosing.is_candidate.Goals as goal
 

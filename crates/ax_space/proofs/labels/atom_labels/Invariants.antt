@@ -1,5 +1,5 @@
 use Rattle.std.proofs.Common.{◌≡◌, take, map}
-use Rattle.ax_region.specs.declared.Label.TheVariants as label
+use Rattle.ax_space_trees.specs.declared.Label.TheVariants as label
 use Rattle.ax_space.proofs.labels.atom_labels.Given as goal
 
 abbrev pub invariant-loop-atom : goal.invariant-loop-atom

@@ -1,6 +1,6 @@
 use Rattle.std.proofs.Common.{◌+◌, ◌++◌, ◌∷◌, [], sym, subst, arith, w32}
 use Rattle.std.proofs.lemmas.Int.{to_z_pos}
-use Rattle.ax_region.specs.declared.Label.TheVariants as label
+use Rattle.ax_space_trees.specs.declared.Label.TheVariants as label
 use Rattle.ax_space.specs.Rows.{IsPart}
 use Rattle.ax_space.specs.Labels.{IsNumberBelow}
 use Rattle.ax_space.proofs.Parts.{numbers-more}

@@ -1,5 +1,5 @@
 use Rattle.std.proofs.Common.{refl, ◌++◌, ◌∷◌, [], sym, ◌∙◌}
-use Rattle.ax_region.proofs.Members.{no-false}
+use Rattle.ax_space_trees.proofs.Members.{no-false}
 use Rattle.ax_space.specs.Positions.{HasOperands}
 use Rattle.ax_space.proofs.Places.{next-there, next-without, next-kept}
 use Rattle.ax_space.proofs.positions.add_mark.Goals as goal

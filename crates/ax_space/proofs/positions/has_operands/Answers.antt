@@ -1,5 +1,5 @@
 use Rattle.std.proofs.Common.{◌≡◌, ◌+◌, ◌++◌, ◌∷◌, [], false, sym, ◌∙◌, arith}
-use Rattle.ax_region.proofs.Members.{no-false}
+use Rattle.ax_space_trees.proofs.Members.{no-false}
 use Rattle.ax_space.specs.Walks.{has_word}
 use Rattle.ax_space.specs.Positions.{arity}
 use Rattle.ax_space.proofs.Places.{before-more, before-not}

@@ -1,6 +1,6 @@
 use Rattle.std.proofs.Common.{◌++◌, ap, ◌∙◌}
 use Rattle.std.specs.Option.{option_copied}
-use Rattle.ax_region.specs.Positions.{labelled}
+use Rattle.ax_space_trees.specs.Positions.{labelled}
 use Rattle.ax_space.specs.Positions.{old_marks}
 use Rattle.ax_space.proofs.Places.{described-one}
 use Rattle.ax_space.proofs.positions.position.Goals as goal

@@ -1,8 +1,8 @@
 use Rattle.std.proofs.Common.{arith, ◌≤◌}
 use Rattle.std.proofs.lemmas.List.Elements.{All-head, All-tail}
 use Rattle.ax_prog.specs.Nodes.{nodes}
-use Rattle.ax_region.specs.Sizes.{words}
-use Rattle.ax_region.proofs.Sizes.{words-small}
+use Rattle.ax_space_trees.specs.Sizes.{words}
+use Rattle.ax_space_trees.proofs.Sizes.{words-small}
 use Rattle.ax_space.proofs.Costs.{small-product}
 use Rattle.ax_space.proofs.Slices.{tail_of, all-parts, tail-length}
 use Rattle.ax_space.proofs.sums.+room.Goals as goal

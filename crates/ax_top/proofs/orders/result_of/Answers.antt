@@ -1,5 +1,5 @@
 use Rattle.std.proofs.Common.{map}
-use Rattle.ax_coverage.specs.Handed.{handed}
+use Rattle.ax_rank_coverage.specs.Handed.{handed}
 use Rattle.ax_top.proofs.Told.{rank-ends, run-ends}
 use Rattle.ax_top.proofs.orders.result_of.Goals as goal
 

@@ -1,7 +1,7 @@
 use Rattle.std.proofs.Common.{◌≡◌, ℕ, ◌<◌, map, false}
 use Rattle.std.specs.Prelude.{slice_index_or}
 use Rattle.std.specs.Str.{bytes_eq}
-use Rattle.ax_coverage.specs.Handed.{handed}
+use Rattle.ax_rank_coverage.specs.Handed.{handed}
 use Rattle.ax_top.proofs.Named.{nobody}
 use Rattle.ax_top.proofs.rankers.place_of.Given as goal
 

@@ -1,8 +1,8 @@
 use Rattle.std.proofs.Common.{◌≡◌, subst, sym}
-use Rattle.ax_flat.specs.Drafts.{flat_code, flat_starts}
-use Rattle.ax_flat.specs.Flat.{IsFlat}
-use Rattle.ax_flat.proofs.Drawn.{has_flat_code}
-use Rattle.ax_flat.proofs.Follow.{flat_runs}
+use Rattle.ax_flow.specs.Drafts.{flat_code, flat_starts}
+use Rattle.ax_flow.specs.Flat.{IsFlat}
+use Rattle.ax_flow.proofs.Drawn.{has_flat_code}
+use Rattle.ax_flow.proofs.Follow.{flat_runs}
 use Rattle.ax_flow.specs.declared.flow.Flow.{Flow}
 use Rattle.ax_flow.proofs.flow.Flow.runs_as_its_program.Goals as goal
 

@@ -1,4 +1,0 @@
-use Rattle.ax_acts.proofs.assigning.source_value.Goals as goal
-
-pub returns-in-Int : goal.returns-in-Int
-returns-in-Int c = λ steps. rw (c.in-Int.is) (c.slot_cell.ensures steps)

@@ -1,9 +1,0 @@
-use Rattle.std.proofs.Common.{refl, ap}
-use Rattle.ax_meaning.specs.Acts.{Done}
-use Rattle.ax_acts.proofs.declaring.declare_listed.Goals as goal
-
-pub returns-in-Err : goal.returns-in-Err
-returns-in-Err c = rw (← c.in-Err.ensures c.args.layout.now.program.now) refl
-
-pub returns-in_ok-begin_listed-in-Ok : goal.returns-in_ok-begin_listed-in-Ok
-returns-in_ok-begin_listed-in-Ok c = rw (← c.in-Ok.ensures c.args.layout.now.program.now, ← c.as_slice.ensures) (ap (λ st. Done tt st) c.in_ok-begin_listed-in-Ok.ensures)

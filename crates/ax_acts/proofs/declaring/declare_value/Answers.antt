@@ -1,8 +1,0 @@
-use Rattle.std.proofs.Common.{refl}
-use Rattle.ax_acts.proofs.declaring.declare_value.Goals as goal
-
-pub returns-in-Err : goal.returns-in-Err
-returns-in-Err c = rw (← c.in-Err.ensures c.args.layout.now.program.now) refl
-
-pub returns-in_ok-begin_blank-in-Ok : goal.returns-in_ok-begin_blank-in-Ok
-returns-in_ok-begin_blank-in-Ok c = rw (← c.in-Ok.ensures c.args.layout.now.program.now) (rw c.in_ok-begin_blank-in-Ok.ensures at (c.keep.ensures c.args.steps))

@@ -1,9 +1,0 @@
-//! Programs that are the same, spans aside, run alike: a law over the meaning of programs.
-#![tactic(auto)]
-
-ghost use Rattle.ax_alike.specs.Runs.{SameRuns};
-
-/// Programs that are the same, spans aside, have the same runs (a law).
-pub fn same_runs()
-    ensures { SameRuns }
-{}

@@ -1,8 +1,0 @@
-mod Deciding
-mod InTurn
-mod Standing
-mod Trees
-mod Laws
-mod Moving
-mod Slots
-mod Law

@@ -1,4 +1,0 @@
-pub mod Layers
-pub mod Kept
-pub mod Objects
-pub mod Steps

@@ -1,6 +1,0 @@
-use Rattle.std.proofs.Common.{◌≡◌, drop}
-use Rattle.ax_program.specs.StatementWalk.{globals_of}
-use Rattle.ax_become.proofs.globals.globals_of.Given as goal
-
-abbrev pub invariant-loop-d : goal.invariant-loop-d
-invariant-loop-d l = (globals_of l.base (drop l.d-index l.items) l.st ≡ globals_of l.base l.items l.initial.st) × (l.st.structs ≡ l.initial.st.structs)

@@ -1,6 +1,0 @@
-use Rattle.std.proofs.Common.{◌≡◌, map, take}
-use Rattle.ax_program.specs.Declarations.{signed_value}
-use Rattle.ax_become.proofs.initials.numbers.Given as goal
-
-abbrev pub invariant-loop-x : goal.invariant-loop-x
-invariant-loop-x l = l.all ≡ map signed_value (take l.x-index l.xs)

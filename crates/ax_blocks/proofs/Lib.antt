@@ -1,2 +1,0 @@
-pub mod Highs
-pub mod Laws

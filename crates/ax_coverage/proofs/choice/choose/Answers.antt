@@ -1,6 +1,0 @@
-use Rattle.ax_coverage.proofs.Shown.{all-seen}
-use Rattle.ax_coverage.proofs.choice.choose.Goals as goal
-
-pub returns-clause-seen : goal.returns-clause-seen
-returns-clause-seen g c =
-    all-seen c.args.program.now c.args.steps c.args.tests.now ((goal.Ranker-dyn g c.args.ranker.now).runs c.args.ranker.now.1) _ c.in_ok-order.ensures.seen

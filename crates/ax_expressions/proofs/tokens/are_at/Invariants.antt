@@ -1,6 +1,0 @@
-use Rattle.std.proofs.Common.{◌≡◌, ◌+◌, ◌≤◌, length, drop}
-use Rattle.ax_grammar.specs.Reading.{past}
-use Rattle.ax_expressions.proofs.tokens.are_at.Given as goal
-
-abbrev pub invariant-loop-terminal : goal.invariant-loop-terminal
-invariant-loop-terminal l = (l.next ≡ l.at + l.terminal-index) × (l.next ≤ length l.tokens) × (past l.what (drop l.at l.tokens) ≡ past (drop l.terminal-index l.what) (drop l.next l.tokens))

@@ -1,5 +1,0 @@
-use Rattle.ax_grammar.proofs.Tools.{extent_at}
-use Rattle.ax_expressions.proofs.tokens.extent.Goals as goal
-
-pub returns : goal.returns
-returns c = extent_at c.args.tokens.now c.args.from c.args.to _ _ c.requires.order c.requires.within

@@ -1,5 +1,0 @@
-use Rattle.ax_fills.proofs.Atoms.{atoms_stand}
-use Rattle.ax_fills.proofs.atoms_are_parts.Goals as goal
-
-pub returns : goal.returns
-returns c = atoms_stand

@@ -1,5 +1,0 @@
-use Rattle.ax_fills.proofs.Sources.{filled}
-use Rattle.ax_fills.proofs.filled_programs.Goals as goal
-
-pub returns : goal.returns
-returns c = filled

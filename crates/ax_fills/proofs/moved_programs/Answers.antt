@@ -1,5 +1,0 @@
-use Rattle.ax_fills.proofs.Sources.{moved}
-use Rattle.ax_fills.proofs.moved_programs.Goals as goal
-
-pub returns : goal.returns
-returns c = moved

@@ -1,5 +1,0 @@
-use Rattle.ax_fills.proofs.Written.{written}
-use Rattle.ax_fills.proofs.written_numbers.Goals as goal
-
-pub returns : goal.returns
-returns c = written

@@ -1,6 +1,0 @@
-use Rattle.ax_flat.proofs.Drawn.{has_flat_code}
-use Rattle.ax_flat.proofs.Layers.{drafts}
-use Rattle.ax_flat.proofs.programs_have_flat_code.Goals as goal
-
-pub returns : goal.returns
-returns c = has_flat_code

@@ -1,4 +1,0 @@
-pub mod Flat
-pub mod Machine
-pub mod Drafts
-pub mod Laws

@@ -1,0 +1,12 @@
+use Rattle.std.proofs.Common.{◌≡◌, ◌+◌, ◌*◌, ◌++◌, drop}
+use Rattle.ax_proof.specs.Runs.{Begins}
+use Rattle.ax_gates.specs.Gates.{blocks}
+use Rattle.ax_gates_adders.specs.Adders.{less_gates}
+use Rattle.ax_gates_adders.proofs.compare.last_carry.Given as goal
+
+abbrev pub invariant-loop-i : goal.invariant-loop-i
+invariant-loop-i l = record {
+  vars : l.cnf.vars ≡ l.initial.cnf.vars + l.i;
+  clauses : l.cnf.clauses.items ++ blocks l.cnf.vars (less_gates l.cnf.vars (drop l.i l.a) (drop l.i l.b) l.carry) ≡ l.initial.cnf.clauses.items ++ blocks l.initial.cnf.vars (less_gates l.initial.cnf.vars l.a l.b l.initial.carry);
+  begins : Begins l.initial.cnf.clauses.items l.cnf.clauses.items;
+}

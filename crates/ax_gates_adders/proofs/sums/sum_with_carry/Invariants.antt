@@ -1,0 +1,13 @@
+use Rattle.std.proofs.Common.{◌≡◌, ◌+◌, ◌*◌, ◌++◌, drop}
+use Rattle.ax_proof.specs.Runs.{Begins}
+use Rattle.ax_gates.specs.Gates.{blocks}
+use Rattle.ax_gates_adders.specs.Adders.{carry_gates, carry_outs}
+use Rattle.ax_gates_adders.proofs.sums.sum_with_carry.Given as goal
+
+abbrev pub invariant-loop-i : goal.invariant-loop-i
+invariant-loop-i l = record {
+  vars : l.cnf.vars ≡ l.initial.cnf.vars + 2 * l.i;
+  clauses : l.cnf.clauses.items ++ blocks l.cnf.vars (carry_gates l.cnf.vars (drop l.i l.a) (drop l.i l.b) l.carry) ≡ l.initial.cnf.clauses.items ++ blocks l.initial.cnf.vars (carry_gates l.initial.cnf.vars l.a l.b l.initial.carry);
+  outs : l.outs.items ++ carry_outs l.cnf.vars (drop l.i l.a) l.carry ≡ carry_outs l.initial.cnf.vars l.a l.initial.carry;
+  begins : Begins l.initial.cnf.clauses.items l.cnf.clauses.items;
+}

@@ -1,5 +1,0 @@
-use Rattle.ax_grammar.proofs.ExpressionsRead.{one_expr}
-use Rattle.ax_grammar.proofs.one_expression.Goals as goal
-
-pub returns : goal.returns
-returns c = λ x y tokens a b. one_expr x y tokens a b

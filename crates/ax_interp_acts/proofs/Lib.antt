@@ -1,0 +1,4 @@
+pub mod Listed
+pub mod Chains
+pub mod Repeats
+pub mod Shown

@@ -1,0 +1,18 @@
+use Rattle.std.proofs.Common.{refl}
+use Rattle.ax_interp_acts.proofs.Chains.{err_is}
+use Rattle.ax_interp_acts.proofs.assigning.bump.Goals as goal
+
+pub returns-in_err-begin_step : goal.returns-in_err-begin_step
+returns-in_err-begin_step c = rw (err_is c.from_residual.result c.in_err-begin_step.field-0.0 c.from_residual.ensures.1, ← c.in_err-begin_step.ensures c.args.layout.now.program.now) refl
+
+pub returns-in_err-at : goal.returns-in_err-at
+returns-in_err-at c = rw (err_is c.from_residual-in_err-at.result c.in_err-at.field-0.0 c.from_residual-in_err-at.ensures.1, ← c.in_ok-begin_step.ensures c.args.layout.now.program.now, ← c.place_at.ensures, ← c.in_err-at.ensures c.begin_step.new.state) refl
+
+pub returns-in_err-old : goal.returns-in_err-old
+returns-in_err-old c = rw (err_is c.from_residual-in_err-old.result c.in_err-old.field-0.0 c.from_residual-in_err-old.ensures.1, ← c.in_ok-begin_step.ensures c.args.layout.now.program.now, ← c.place_at.ensures, ← c.in_ok-at.ensures c.begin_step.new.state, ← c.stored_at.ensures, ← c.in_err-old.ensures c.begin_step.new.state) refl
+
+pub returns-in_err-cell : goal.returns-in_err-cell
+returns-in_err-cell c = rw (err_is c.from_residual-in_err-cell.result c.in_err-cell.field-0.0 c.from_residual-in_err-cell.ensures.1, ← c.in_ok-begin_step.ensures c.args.layout.now.program.now, ← c.place_at.ensures, ← c.in_ok-at.ensures c.begin_step.new.state, ← c.stored_at.ensures, ← c.in_ok-old.ensures c.begin_step.new.state, ← c.bump_op.ensures, ← c.changed.ensures, ← c.in_err-cell.ensures c.begin_step.new.state) refl
+
+pub returns : goal.returns
+returns c = rw (← c.in_ok-begin_step.ensures c.args.layout.now.program.now, ← c.place_at.ensures, ← c.in_ok-at.ensures c.begin_step.new.state, ← c.stored_at.ensures, ← c.in_ok-old.ensures c.begin_step.new.state, ← c.bump_op.ensures, ← c.changed.ensures, ← c.in_ok-cell.ensures c.begin_step.new.state) c.put.ensures

@@ -1,6 +1,0 @@
-use Rattle.ax_typing.specs.Scopes.{env_of}
-use Rattle.ax_typing.proofs.Exact.{exact_if}
-use Rattle.ax_judge.proofs.judged.Goals as goal
-
-pub returns : goal.returns
-returns c = record { exact = exact_if (env_of c.args.names.now c.args.structs.now) c.args.tree.now c.typed.result c.typed.ensures; verdict = c.typed.ensures }

@@ -1,5 +1,0 @@
-mod Layers
-mod Counted
-mod Passed
-mod Quiet
-mod Found

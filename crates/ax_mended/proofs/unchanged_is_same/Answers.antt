@@ -1,5 +1,0 @@
-use Rattle.ax_mended.proofs.Unchanged.{unchanged-same, same-unchanged}
-use Rattle.ax_mended.proofs.unchanged_is_same.Goals as goal
-
-pub returns : goal.returns
-returns c = λ old new. (unchanged-same old new, same-unchanged old new)

@@ -1,0 +1,7 @@
+mod Closing
+pub mod CallLayers
+mod LargeLayers
+mod Counted
+mod Passed
+mod Quiet
+mod Found

@@ -1,0 +1,5 @@
+pub mod Nesting
+pub mod Calls
+pub mod Nodes
+pub mod Wholes
+pub mod Scan

@@ -1,0 +1,45 @@
+use Rattle.std.proofs.Common.{◌≡◌, ℕ, ◌+◌, ◌<◌, ◌≤◌, false, List, [], ◌∷◌, ◌++◌, Some, sym, refl, ap, ◌∙◌, subst, arith, drop}
+use Rattle.std.proofs.lemmas.Result.{err_from_is_err_and}
+use Rattle.ax_parse_grammar.specs.declared.tree.Param.{Param}
+use Rattle.ax_parse_grammar.specs.ReadSources.{param}
+use Rattle.ax_parse_statements.specs.HeadsFound.{listed_params}
+use Rattle.ax_parse_statements.proofs.DeclarationTurns.{OnTo, behind, gives_err, on_push, on_fail, on_end, separated_on, separated_fail, behind_turn, behind_fail, behind_end}
+use Rattle.ax_parse_statements.proofs.heads.listed_params.Goals as goal
+
+pub returns-in_err-first-clause-exact : goal.returns-in_err-first-clause-exact
+returns-in_err-first-clause-exact c =
+    let p = err_from_is_err_and c.from_residual.result c.from_residual.ensures.1 in
+    let ts = drop c.args.at c.args.tokens.now in
+    rw (p.1, p.2) (gives_err c.args.tokens.now c.in_err-first.field-0.0 (λ n. param n ts) (λ n. listed_params n ts) c.in_err-first.ensures.exact (separated_fail (param) ts))
+
+pub loop-alloc-init : goal.loop-alloc-init
+loop-alloc-init c =
+    let ts = drop c.args.at c.args.tokens.now in
+    let r = drop c.in_ok-first.next c.args.tokens.now in
+    (c.in_ok-first.ensures.forward.0, c.in_ok-first.ensures.forward.1, subst (λ (l : List Param). OnTo (λ n. listed_params n ts) (behind (param) r) l) (sym (c.in_ok-push.ensures.ok ∙ ap (λ (l : List Param). l ++ c.in_ok-first.first ∷ []) c.new-found.ensures)) (separated_on (param) ts r c.in_ok-first.first c.in_ok-first.ensures.exact))
+
+pub returns-in_err-another-clause-exact : goal.returns-in_err-another-clause-exact
+returns-in_err-another-clause-exact c =
+    let p = err_from_is_err_and c.from_residual-in_err-another.result c.from_residual-in_err-another.ensures.1 in
+    let tokens = c.args.tokens.now in
+    let ts = drop c.args.at tokens in
+    let us = drop c.loop-alloc.next tokens in
+    let vs = drop (c.loop-alloc.next + 1) tokens in
+    rw (p.1, p.2) (gives_err tokens c.in_err-another.field-0.0 (λ n. param n vs) (λ n. listed_params n ts) c.in_err-another.ensures.exact (λ none. on_fail (λ n. listed_params n ts) (behind (param) us) c.loop-alloc.found c.loop-alloc.invariant.2 (behind_fail (param) us vs (c.loop-alloc-test.ensures.some refl).1 none)))
+
+pub loop-alloc-preserved : goal.loop-alloc-preserved
+loop-alloc-preserved c =
+    let tokens = c.args.tokens.now in
+    let ts = drop c.args.at tokens in
+    let us = drop c.loop-alloc.next tokens in
+    let vs = drop (c.loop-alloc.next + 1) tokens in
+    let r = drop c.in_ok-another.end tokens in
+    let after : c.args.at < c.in_ok-another.end = omega (arith, c.in_ok-another.ensures.forward.0, c.loop-alloc.invariant.0) in
+    (after, c.in_ok-another.ensures.forward.1, subst (λ (l : List Param). OnTo (λ n. listed_params n ts) (behind (param) r) l) (sym c.in_ok-push-2.ensures.ok) (on_push (λ n. listed_params n ts) (behind (param) us) (behind (param) r) c.loop-alloc.found c.in_ok-another.another c.loop-alloc.invariant.2 (behind_turn (param) us vs r c.in_ok-another.another (c.loop-alloc-test.ensures.some refl).1 c.in_ok-another.ensures.exact)))
+
+pub returns-clause-exact : goal.returns-clause-exact
+returns-clause-exact c =
+    let tokens = c.args.tokens.now in
+    let ts = drop c.args.at tokens in
+    let us = drop c.loop-alloc.next tokens in
+    on_end (λ n. listed_params n ts) (behind (param) us) c.loop-alloc.found us c.loop-alloc.invariant.2 (behind_end (param) us (c.loop-alloc-test.ensures.none refl))

@@ -1,0 +1,4 @@
+pub mod Changes
+pub mod Deciding
+pub mod Swaps
+pub mod Shown

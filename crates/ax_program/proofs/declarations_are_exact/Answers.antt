@@ -1,8 +1,0 @@
-use Rattle.ax_program.proofs.Laws.{vars_exact, globals_exact}
-use Rattle.ax_program.proofs.declarations_are_exact.Goals as goal
-
-pub returns-clause-variables : goal.returns-clause-variables
-returns-clause-variables c = vars_exact
-
-pub returns-clause-globals : goal.returns-clause-globals
-returns-clause-globals c = globals_exact

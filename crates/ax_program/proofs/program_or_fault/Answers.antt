@@ -1,8 +1,0 @@
-use Rattle.ax_program.proofs.Sources.{program_or_fault, never_both}
-use Rattle.ax_program.proofs.program_or_fault.Goals as goal
-
-pub returns-clause-one : goal.returns-clause-one
-returns-clause-one c = program_or_fault
-
-pub returns-clause-never_both : goal.returns-clause-never_both
-returns-clause-never_both c = never_both

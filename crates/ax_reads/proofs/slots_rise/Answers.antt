@@ -1,5 +1,0 @@
-use Rattle.ax_reads.proofs.Risen.{rise}
-use Rattle.ax_reads.proofs.slots_rise.Goals as goal
-
-pub returns : goal.returns
-returns c = λ bytes tokens tree program s t p. rise bytes tokens tree program s t p

@@ -1,7 +1,0 @@
-use Rattle.std.proofs.Common.{◌≡◌, take, map}
-use Rattle.std.specs.List.{flat_map, filter}
-use Rattle.ax_region.specs.Listed.{within, with_two}
-use Rattle.ax_region.proofs.lister.binary.Given as goal
-
-abbrev pub invariant-loop-first : goal.invariant-loop-first
-invariant-loop-first l = l.all ≡ filter (within l.budget) (flat_map (λ x. map (with_two l.op l.cost x) l.seconds) (take l.first-index l.firsts))

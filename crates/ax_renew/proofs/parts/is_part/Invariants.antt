@@ -1,6 +1,0 @@
-use Rattle.std.proofs.Common.{take}
-use Rattle.ax_renew.specs.Core.{IsPart}
-use Rattle.ax_renew.proofs.parts.is_part.Given as goal
-
-abbrev pub invariant-loop-lit : goal.invariant-loop-lit
-invariant-loop-lit l = IsPart (take l.lit-index l.part) l.lits

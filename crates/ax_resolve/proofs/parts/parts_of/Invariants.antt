@@ -1,7 +1,0 @@
-use Rattle.std.proofs.Common.{◌≡◌, drop}
-use Rattle.ax_types.specs.Cells.{measured}
-use Rattle.ax_program.specs.FileWalk.{parts_of}
-use Rattle.ax_resolve.proofs.parts.parts_of.Given as goal
-
-abbrev pub invariant-loop-part : goal.invariant-loop-part
-invariant-loop-part l = (parts_of l.defs (drop l.part-index l.parts) l.st ≡ parts_of l.defs l.parts l.initial.st) × (l.cells ≡ measured l.st.structs)

@@ -1,5 +1,0 @@
-pub mod Tools
-pub mod ExpressionsSound
-pub mod DeclarationsSound
-pub mod StatementsSound
-pub mod SourcesSound

@@ -1,5 +1,0 @@
-use Rattle.ax_sound.proofs.SourcesSound.{source_sound}
-use Rattle.ax_sound.proofs.read_is_spelled.Goals as goal
-
-pub returns : goal.returns
-returns c = λ n tokens parts h. source_sound n tokens parts h

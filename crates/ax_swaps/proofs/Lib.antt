@@ -1,4 +1,0 @@
-pub mod Shifts
-pub mod Stands
-pub mod Copied
-pub mod Swapped

@@ -1,5 +1,0 @@
-use Rattle.ax_swaps.proofs.Copied.{copied}
-use Rattle.ax_swaps.proofs.stretches_are_copied.Goals as goal
-
-pub returns : goal.returns
-returns c = λ bytes front t ts back s. copied bytes front t ts back s

@@ -1,8 +1,0 @@
-use Rattle.std.proofs.Common.{◌≡◌, [], ◌∷◌, ◌++◌, length, drop}
-use Rattle.ax_types.specs.Denotations.{tags_of}
-use Rattle.ax_types.specs.Members.{after_items}
-use Rattle.ax_types.proofs.structs.items.Given as goal
-
-abbrev pub invariant-loop-declarator : goal.invariant-loop-declarator
-invariant-loop-declarator l =
-    after_items (tags_of l.structs ++ l.own ∷ []) (length l.structs) l.base (drop l.declarator-index l.list) l.found ≡ after_items (tags_of l.structs ++ l.own ∷ []) (length l.structs) l.base l.list l.initial.found

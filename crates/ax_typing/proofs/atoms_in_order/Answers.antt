@@ -1,5 +1,0 @@
-use Rattle.ax_typing.proofs.Carried.{value_carried}
-use Rattle.ax_typing.proofs.atoms_in_order.Goals as goal
-
-pub returns : goal.returns
-returns c = value_carried

@@ -1,4 +1,0 @@
-use Rattle.ax_values.proofs.types.+cells_before.Given as goal
-
-abbrev pub decreases-cells_before : goal.decreases-cells_before
-decreases-cells_before l = l.at

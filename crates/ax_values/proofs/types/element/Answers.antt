@@ -1,5 +1,0 @@
-use Rattle.ax_meaning.proofs.Trees.{element_of-Array}
-use Rattle.ax_values.proofs.types.element.Goals as goal
-
-pub returns-in-Array : goal.returns-in-Array
-returns-in-Array c = rw (c.in-Array.is, element_of-Array) c.get.ensures
