@@ -59,19 +59,44 @@ fn sample(alloc: Global) -> Result<Program, AllocError> {
     Ok(program)
 }
 
+/// Whether the program has three slots, of which the third has 32 nodes.
+fn has_its_slots(program: &Program) -> bool {
+    program.slots.len() == 3 && node_count(program.expr_at(SlotId(2))) == 32
+}
+
+/// Whether the third slot of a program is 5, and the second one that of the other.
+fn is_replaced(changed: &Program, program: &Program) -> bool {
+    changed.slots.len() == 3
+        && program.slots.len() == 3
+        && same_expr(changed.expr_at(SlotId(1)), program.expr_at(SlotId(1)))
+        && same_expr(changed.expr_at(SlotId(2)), &Expr::Num(5))
+}
+
+/// Whether the candidates are the first two slots, and a copy has three slots too.
+fn are_found(alloc: Global, program: &Program) -> Result<bool, AllocError> {
+    let candidates = program.candidates(alloc)?;
+    if candidates.as_slice() != [SlotId(0), SlotId(1)].as_slice() {
+        return Ok(false);
+    }
+    Ok(copy_program(alloc, program)?.slots.len() == 3)
+}
+
+/// Whether 5 takes the third slot's place, and is a candidate there.
+fn are_replaced(alloc: Global, program: &Program) -> Result<bool, AllocError> {
+    if program.slots.len() != 3 {
+        return Ok(false);
+    }
+    let changed = program.substitute(alloc, SlotId(2), Expr::Num(5))?;
+    Ok(is_replaced(&changed, program) && changed.candidates(alloc)?.len() == 3)
+}
+
 #[test]
 fn slots_are_found_and_replaced(rt: HostRuntime) -> Result<(), AllocError> {
     let alloc = rt.alloc();
     let program = sample(alloc)?;
-    assert!(rt; program.candidates(alloc)?.as_slice() == [SlotId(0), SlotId(1)].as_slice());
-    assert!(rt; program.slots.len() == 3);
-    assert!(rt; node_count(program.expr_at(SlotId(2))) == 32);
-    assert!(rt; copy_program(alloc, &program)?.slots.len() == 3);
-    let changed = program.substitute(alloc, SlotId(2), Expr::Num(5))?;
-    assert!(rt; changed.slots.len() == 3);
-    assert!(rt; same_expr(changed.expr_at(SlotId(1)), program.expr_at(SlotId(1))));
-    assert!(rt; same_expr(changed.expr_at(SlotId(2)), &Expr::Num(5)));
-    assert!(rt; changed.candidates(alloc)?.len() == 3);
+    assert!(rt; has_its_slots(&program));
+    assert!(rt; are_found(alloc, &program)?);
+    assert!(rt; are_replaced(alloc, &program)?);
     Ok(())
 }
 

@@ -5,6 +5,7 @@ use crate::texts::program_of;
 use ax_flow::lower;
 use ax_interp::run;
 use ax_meaning::{Run, RunEnd};
+use ax_prog::Program;
 use std::alloc::{AllocError, Global};
 use std::test::Fail;
 
@@ -33,17 +34,32 @@ fn shown(alloc: Global, run: &Run) -> Result<String, AllocError> {
     }
 }
 
-// What both print of a source on the inputs 3, -2 and 7, and how they end within these steps, where they do so alike.
-fn ran(alloc: Global, source: &str, steps: u32) -> Result<String, Fail> {
-    let program = program_of(alloc, source)?;
-    let flow = lower(alloc, &program)?;
-    let flat = run(alloc, &flow, &[3, -2, 7], steps)?;
-    let plain = ax_interp_plain::run(alloc, &program, &[3, -2, 7], steps)?;
-    let found = shown(alloc, &plain)?;
-    if shown(alloc, &flat)?.as_str() != found.as_str() || flat.used != plain.used {
+// What the interpreter does of a program on the inputs 3, -2 and 7 within these steps.
+fn flat_run(alloc: Global, program: &Program, steps: u32) -> Result<Run, AllocError> {
+    let flow = lower(alloc, program)?;
+    run(alloc, &flow, &[3, -2, 7], steps)
+}
+
+// What two runs print, and how they end, where they do so alike.
+fn agreed(alloc: Global, flat: &Run, plain: &Run) -> Result<String, Fail> {
+    let found = shown(alloc, plain)?;
+    if shown(alloc, flat)?.as_str() != found.as_str() || flat.used != plain.used {
         return Err(Fail::from("unlike runs"));
     }
     Ok(found)
+}
+
+// What both print of a program on these inputs, and how they end within these steps, where they do so alike.
+fn both(alloc: Global, program: &Program, steps: u32) -> Result<String, Fail> {
+    let flat = flat_run(alloc, program, steps)?;
+    let plain = ax_interp_plain::run(alloc, program, &[3, -2, 7], steps)?;
+    agreed(alloc, &flat, &plain)
+}
+
+// What both print of a source.
+fn ran(alloc: Global, source: &str, steps: u32) -> Result<String, Fail> {
+    let program = program_of(alloc, source)?;
+    both(alloc, &program, steps)
 }
 
 /// The first of these sources that runs otherwise than the text beside it says, with how it runs; nothing where there is none.

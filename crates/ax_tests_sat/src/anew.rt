@@ -4,7 +4,17 @@ use crate::sat::clause;
 use ax_proof::Clause;
 use ax_sat_policy::{Due, put, renew};
 use ax_watch::Watch;
+use std::alloc::Global;
+use std::process::Abort;
 use std::test::Fail;
+
+/// Puts the clauses of these numbers behind those that are watched.
+fn add_all(rt: &impl Abort, alloc: Global, watch: &mut Watch, rows: &[&[i32]]) -> Result<(), Fail> {
+    for numbers in rows {
+        add(watch, &clause(rt, alloc, numbers)?)?;
+    }
+    Ok(())
+}
 
 /// Puts a clause behind those that are watched.
 fn add(watch: &mut Watch, one: &Clause) -> Result<(), Fail> {
@@ -20,28 +30,35 @@ fn stands(watch: &Watch, place: usize, one: &Clause) -> bool {
     place < watch.len() && watch.clause(place) == one.lits()
 }
 
+/// Whether those that are watched are the clauses of these numbers, in this order.
+fn are(rt: &impl Abort, alloc: Global, watch: &Watch, rows: &[&[i32]]) -> Result<bool, Fail> {
+    for (place, numbers) in rows.iter().enumerate() {
+        if !stands(watch, place, &clause(rt, alloc, numbers)?) {
+            return Ok(false);
+        }
+    }
+    Ok(watch.len() == rows.len())
+}
+
+const CLAUSES: [&[i32]; 6] = [
+    &[1, 2, 3],
+    &[-1, 3],
+    &[1, 2, -4],
+    &[1, 2],
+    &[-2, 3, 4],
+    &[-2, 4],
+];
+
+const CORE: [&[i32]; 3] = [&[-1, 3], &[1, 2], &[-2, 4]];
+
 /// Of these clauses those stay of which no later one is a part, in their order.
 #[test]
 fn a_core_stays(rt: HostRuntime) -> Result<(), Fail> {
     let alloc = rt.alloc();
     let mut watch = Watch::new(alloc, 4)?;
-    for numbers in [
-        [1, 2, 3].as_slice(),
-        [-1, 3].as_slice(),
-        [1, 2, -4].as_slice(),
-        [1, 2].as_slice(),
-        [-2, 3, 4].as_slice(),
-        [-2, 4].as_slice(),
-    ] {
-        let one = clause(&rt, alloc, numbers)?;
-        add(&mut watch, &one)?;
-    }
+    add_all(&rt, alloc, &mut watch, &CLAUSES)?;
     renew(alloc, &mut watch)?;
-    assert_eq!(rt; watch.len(), 3);
-    for (place, numbers) in [(0, [-1, 3]), (1, [1, 2]), (2, [-2, 4])] {
-        let one = clause(&rt, alloc, numbers.as_slice())?;
-        assert!(rt; stands(&watch, place, &one));
-    }
+    assert!(rt; are(&rt, alloc, &watch, &CORE)?);
     Ok(())
 }
 

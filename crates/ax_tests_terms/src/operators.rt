@@ -91,7 +91,9 @@ fn choice_at_numbers(
 }
 
 /// Arithmetic, shifts, bits and comparisons as C has them. An operand `None` is undefined, as `1 / 0` is, and only needed operands count.
-const BINARY: [(Bin, Option<i32>, Option<i32>, Option<i32>); 56] = [
+type Row = (Bin, Option<i32>, Option<i32>, Option<i32>);
+
+const BINARY: [Row; 56] = [
     (Bin::Add, Some(GREATEST), Some(1), None),
     (Bin::Add, Some(GREATEST), Some(LEAST), Some(-1)),
     (Bin::Add, Some(LEAST), Some(-1), None),
@@ -150,12 +152,20 @@ const BINARY: [(Bin, Option<i32>, Option<i32>, Option<i32>); 56] = [
     (Bin::Lt, None, Some(1), None),
 ];
 
+/// The first of these rows whose operator means something else.
+fn other_meaning(alloc: Global, rows: &[Row]) -> Result<Option<Row>, AllocError> {
+    for row in rows {
+        let (op, a, b, wanted) = *row;
+        if binary_at_numbers(alloc, op, a, b)? != wanted {
+            return Ok(Some(*row));
+        }
+    }
+    Ok(None)
+}
+
 #[test]
 fn binary_as_c_does(rt: HostRuntime) -> Result<(), Fail> {
-    for (op, a, b, wanted) in BINARY {
-        let found = binary_at_numbers(rt.alloc(), op, a, b)?;
-        assert_eq!(rt; found, wanted, "{op:?} of {a:?} and {b:?}");
-    }
+    assert_eq!(rt; other_meaning(rt.alloc(), &BINARY)?, None);
     Ok(())
 }
 

@@ -34,26 +34,51 @@ fn operators(rt: HostRuntime) {
     assert!(rt; !TestOp::Eq.apply(-1, 0));
 }
 
+/// The sum of two constants, where it is a constant.
+fn sum_of(bank: &mut Bank, a: i32, b: i32) -> Result<Option<i32>, AllocError> {
+    let first = bank.word(a)?;
+    let second = bank.word(b)?;
+    Ok(bank.make_word(WordOp::Add, &first, &second)?.constant())
+}
+
+/// The numbers of `f ? a : a` and of `a`.
+fn choice_and_word(bank: &mut Bank) -> Result<(usize, usize), AllocError> {
+    let f = bank.flag_sym(0)?;
+    let a = bank.word_sym(0)?;
+    Ok((bank.make_pick(&f, &a, &a)?.number(), a.number()))
+}
+
+/// The number of `1 * a`.
+fn product(bank: &mut Bank) -> Result<usize, AllocError> {
+    let one = bank.word(1)?;
+    let a = bank.word_sym(0)?;
+    Ok(bank.make_word(WordOp::Mul, &one, &a)?.number())
+}
+
+/// The truth of `a < a`, where it is a constant.
+fn less_than_itself(bank: &mut Bank) -> Result<Option<bool>, AllocError> {
+    let a = bank.word_sym(0)?;
+    Ok(bank.make_test(TestOp::Lt, &a, &a)?.truth())
+}
+
+/// The truth of `f && !f`, where it is a constant.
+fn with_its_denial(bank: &mut Bank) -> Result<Option<bool>, AllocError> {
+    let f = bank.flag_sym(0)?;
+    let denied = bank.make_no(&f)?;
+    Ok(bank.make_all(&f, &denied)?.truth())
+}
+
 /// Terms of constants, `f ? a : a` and `a < a` fold, and so does `f && !f`; a term that is made again is the same one.
 #[test]
 fn folding(rt: HostRuntime) -> Result<(), Fail> {
     let mut bank = Bank::new(rt.alloc());
-    let five = {
-        let (two, three) = (bank.word(2)?, bank.word(3)?);
-        bank.make_word(WordOp::Add, &two, &three)?.constant()
-    };
-    assert_eq!(rt; five, Some(5));
-    let f = bank.flag_sym(0)?;
-    let a = bank.word_sym(0)?;
-    assert_eq!(rt; bank.make_pick(&f, &a, &a)?.number(), a.number());
-    let one = bank.word(1)?;
-    assert_eq!(rt; bank.make_word(WordOp::Mul, &one, &a)?.number(), 6);
-    assert_eq!(rt; bank.make_word(WordOp::Mul, &one, &a)?.number(), 6);
-    let less = bank.make_test(TestOp::Lt, &a, &a)?.truth();
-    assert_eq!(rt; less, Some(false));
+    assert_eq!(rt; sum_of(&mut bank, 2, 3)?, Some(5));
+    assert_eq!(rt; choice_and_word(&mut bank)?, (4, 4));
+    assert_eq!(rt; product(&mut bank)?, 6);
+    assert_eq!(rt; product(&mut bank)?, 6);
+    assert_eq!(rt; less_than_itself(&mut bank)?, Some(false));
     assert_eq!(rt; bank.flag(false)?.number(), 7);
-    let denied = bank.make_no(&f)?;
-    assert_eq!(rt; bank.make_all(&f, &denied)?.truth(), Some(false));
+    assert_eq!(rt; with_its_denial(&mut bank)?, Some(false));
     assert_eq!(rt; bank.len(), 9);
     Ok(())
 }
