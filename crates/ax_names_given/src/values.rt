@@ -14,6 +14,7 @@ use crate::Stop;
 use crate::states::add_slot;
 use ax_names_rules::State;
 use ax_names_types::faults::wrong_type;
+use ax_names_types::scopes::is_function;
 use ax_names_types::types::same_ty;
 use ax_names_types::{TypeFault, TypeKind, Typed};
 use ax_names_values::judged;
@@ -219,5 +220,8 @@ fn as_target(at: Span, m: Typed) -> Result<(Ty, Lval), Stop>
 pub fn target_of(alloc: Global, st: &State, a: &Expr) -> Result<(Ty, Lval), Stop>
     ensures found { IsFound (target_by_rules st.now a.now) result }
 {
+    if is_function(st.names.as_slice(), a) {
+        return Err(Stop::Fault(not_lvalue(span_of(a))));
+    }
     as_target(span_of(a), meaning(alloc, st, a)?)
 }

@@ -22,15 +22,15 @@ use Rattle.ax_names_types.specs.declared.Typed.TheVariants as t
 use Rattle.ax_names_types.specs.declared.TypeKind.TheVariants.{UnknownName, WrongType, NotLvalue, WrongCount}
 use Rattle.ax_names_types.specs.declared.TypeFault.{TypeFault}
 use Rattle.ax_names_types.specs.Faults.{fault, Verdict}
-use Rattle.ax_names_types.specs.Scopes.{innermost}
+use Rattle.ax_names_types.specs.Scopes.{innermost, is_function}
 use Rattle.ax_names_types.specs.Types.{is_call}
 use Rattle.ax_names_types.specs.Meaning.{Means}
 use Rattle.ax_names_types.specs.Breaks.{Breaks}
-use Rattle.ax_names_types.specs.Verdicts.{verdict_of}
+use Rattle.ax_names_types.specs.Verdicts.{unless_function, verdict_of}
 use Rattle.ax_names_types.proofs.Equality.{same_is, same_itself}
 use Rattle.ax_names_types.proofs.Sound.{Judged, judged, clash}
-use Rattle.ax_names_types.proofs.Meant.{means_verdict}
-use Rattle.ax_names_types.proofs.Broken.{Faulty, breaks_verdict}
+use Rattle.ax_names_types.proofs.Meant.{means_verdict, means_place}
+use Rattle.ax_names_types.proofs.Broken.{Faulty, function_faulty, place_faulty, breaks_verdict}
 use Rattle.ax_names_rules.specs.declared.Signature.{Signature}
 use Rattle.ax_names_rules.specs.declared.State.{State}
 use Rattle.ax_names_rules.specs.States.{here}
@@ -262,8 +262,20 @@ meaning_judged st a (t.Place u l) d = place_judged st a u l d
 meaning_judged st a (t.Int x xs) d = BreaksTarget.no_place d (λ u l h. clash (is_place (t.Int x xs)) (ap is_place h) refl)
 meaning_judged st a (t.Ptr v q) d = BreaksTarget.no_place d (λ u l h. clash (is_place (t.Ptr v q)) (ap is_place h) refl)
 
+-- what stands where a place is wanted
+abbrev JudgedPlace : State → Expr → Verdict Typed → Type 0
+JudgedPlace st a (Ok m) = Means (here st) a m
+JudgedPlace st a (Err f) = BreaksTarget st a f
+
+function_judged : (st : State) (a : Expr) (b : Bool) (v : Verdict Typed) → is_function st.names a ≡ b → Judged (here st) a v → JudgedPlace st a (unless_function b (span_of a) v)
+function_judged st a true v h d = BreaksTarget.function h
+function_judged st a false (Ok m) h d = d
+function_judged st a false (Err f) h d = BreaksTarget.within h d
+
 pub target_judged : (st : State) (a : Expr) → JudgedTarget st a (target_of st a)
-target_judged st a = bind_judged (Judged (here st) a) (JudgedTarget st a) _ (verdict_of (here st) a) (judged (here st) a) (λ m d. meaning_judged st a m d) (λ f d. BreaksTarget.within d)
+target_judged st a =
+    bind_judged (JudgedPlace st a) (JudgedTarget st a) _ (unless_function (is_function st.names a) (span_of a) (verdict_of (here st) a))
+    (function_judged st a (is_function st.names a) (verdict_of (here st) a) refl (judged (here st) a)) (λ m d. meaning_judged st a m d) (λ f d. d)
 
 no_array : (at : Span) (u : Ty) (l : Lval) → is_array u ≡ false → unless_array at u l ≡ Ok (u, l)
 no_array at ty.Int l h = refl
@@ -283,9 +295,10 @@ no_place at (t.Int x xs) k = refl
 no_place at (t.Ptr u q) k = refl
 
 pub target_is : (st : State) (a : Expr) (u : Ty) (l : Lval) → IsTarget st a u l → target_of st a ≡ Ok (u, l)
-target_is st a u l (IsTarget.target d h) = bind_is _ _ (t.Place u l) _ (means_verdict (here st) a (t.Place u l) d) (no_array (span_of a) u l h)
+target_is st a u l (IsTarget.target d h) = bind_is _ _ (t.Place u l) _ (means_place (here st) a (t.Place u l) d) (no_array (span_of a) u l h)
 
 pub target_breaks : (st : State) (a : Expr) (g : TypeFault) → BreaksTarget st a g → Faulty (target_of st a) g
-target_breaks st a g (BreaksTarget.within d) = bind_faulty _ _ g (breaks_verdict (here st) a g d)
-target_breaks st a _ (BreaksTarget.no_place {m = m} d k) = bind_behind _ _ m (fault NotLvalue (span_of a)) (means_verdict (here st) a m d) (fault_is _ _ (no_place (span_of a) m k))
-target_breaks st a _ (BreaksTarget.array u l d h) = bind_behind _ _ (t.Place u l) (fault NotLvalue (span_of a)) (means_verdict (here st) a (t.Place u l) d) (fault_is _ _ (an_array (span_of a) u l h))
+target_breaks st a _ (BreaksTarget.function h) = bind_faulty _ _ (fault NotLvalue (span_of a)) (function_faulty (is_function st.names a) (span_of a) (verdict_of (here st) a) h)
+target_breaks st a g (BreaksTarget.within h d) = bind_faulty _ _ g (place_faulty (is_function st.names a) (span_of a) (verdict_of (here st) a) g h (breaks_verdict (here st) a g d))
+target_breaks st a _ (BreaksTarget.no_place {m = m} d k) = bind_behind _ _ m (fault NotLvalue (span_of a)) (means_place (here st) a m d) (fault_is _ _ (no_place (span_of a) m k))
+target_breaks st a _ (BreaksTarget.array u l d h) = bind_behind _ _ (t.Place u l) (fault NotLvalue (span_of a)) (means_place (here st) a (t.Place u l) d) (fault_is _ _ (an_array (span_of a) u l h))

@@ -22,7 +22,7 @@ use Rattle.ax_names_types.specs.declared.Need.TheVariants as need
 use Rattle.ax_names_types.specs.declared.TypeKind.TheVariants.{UnknownName, WrongType, NotLvalue, WrongCount}
 use Rattle.ax_names_types.specs.declared.TypeFault.{TypeFault}
 use Rattle.ax_names_types.specs.Faults.{fault}
-use Rattle.ax_names_types.specs.Scopes.{innermost}
+use Rattle.ax_names_types.specs.Scopes.{innermost, is_function}
 use Rattle.ax_names_types.specs.Types.{is_zero, is_call}
 use Rattle.ax_names_types.specs.Meaning.{Means, Is}
 use Rattle.ax_names_types.specs.Breaks.{Breaks, Misses}
@@ -76,8 +76,9 @@ pub data BreaksGiven (defs : List (List ℕ)) (st : State) (u : Ty) (at : Span) 
 
 -- ---- places that are changed
 
--- 6.5.16p2: the expression is to be a place, and no array
+-- 6.5.16p2: the expression is to be a place, and no array; a function's name is no place
 pub data BreaksTarget (st : State) (a : Expr) : TypeFault → Type 0 where
-  within : {f : TypeFault} → Breaks (here st) a f → BreaksTarget st a f
+  function : is_function st.names a ≡ true → BreaksTarget st a (fault NotLvalue (span_of a))
+  within : {f : TypeFault} → is_function st.names a ≡ false → Breaks (here st) a f → BreaksTarget st a f
   no_place : {m : Typed} → Means (here st) a m → ((u : Ty) (l : Lval) → m ≡ t.Place u l → ⊥) → BreaksTarget st a (fault NotLvalue (span_of a))
   array : (u : Ty) (l : Lval) → Means (here st) a (t.Place u l) → is_array u ≡ true → BreaksTarget st a (fault NotLvalue (span_of a))

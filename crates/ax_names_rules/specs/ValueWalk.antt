@@ -23,9 +23,9 @@ use Rattle.ax_names_types.specs.declared.Typed.{Typed}
 use Rattle.ax_names_types.specs.declared.Typed.TheVariants as t
 use Rattle.ax_names_types.specs.declared.TypeKind.TheVariants.{UnknownName, WrongType, NotLvalue, WrongCount}
 use Rattle.ax_names_types.specs.Faults.{fault, Verdict}
-use Rattle.ax_names_types.specs.Scopes.{innermost}
+use Rattle.ax_names_types.specs.Scopes.{innermost, is_function}
 use Rattle.ax_names_types.specs.Types.{value_of, is_zero, is_call}
-use Rattle.ax_names_types.specs.Verdicts.{same_ty, verdict_of}
+use Rattle.ax_names_types.specs.Verdicts.{same_ty, unless_function, verdict_of}
 use Rattle.ax_names_rules.specs.declared.Signature.{Signature}
 use Rattle.ax_names_rules.specs.declared.State.{State}
 use Rattle.ax_names_rules.specs.States.{here, next_slot, with_slot}
@@ -150,4 +150,4 @@ as_target at (t.Ptr u q) = Err (fault NotLvalue at)
 as_target at (t.Place u l) = unless_array at u l
 
 abbrev pub target_of : State → Expr → Verdict (Ty × Lval)
-target_of st a = verdict_of (here st) a >>= λ m. as_target (span_of a) m
+target_of st a = unless_function (is_function st.names a) (span_of a) (verdict_of (here st) a) >>= λ m. as_target (span_of a) m

@@ -34,15 +34,15 @@ use Rattle.ax_names_types.specs.declared.TypeKind.{TypeKind}
 use Rattle.ax_names_types.specs.declared.TypeKind.TheVariants.{UnknownName, WrongType, NotLvalue, MissingField}
 use Rattle.ax_names_types.specs.declared.TypeFault.{TypeFault}
 use Rattle.ax_names_types.specs.Faults.{fault, turn, Verdict}
-use Rattle.ax_names_types.specs.Scopes.{Env, innermost, member_of}
+use Rattle.ax_names_types.specs.Scopes.{Env, innermost, is_function, member_of}
 use Rattle.ax_names_types.specs.Types.{value_of, struct_of, meets, left_need, right_need, unary_need, is_comparison, is_address, is_arithmetic, un_of, compared, is_zero, is_call}
 use Rattle.ax_names_types.specs.Meaning.{Is, Means}
 use Rattle.ax_names_types.specs.Breaks.{Needs, Misses, Breaks, First, Exact}
-use Rattle.ax_names_types.specs.Verdicts.{sooner, both, on, pair, needed, as_value, same_ty, pointer_int, sides, binary, negated, followed, addressed, unary, chosen, cond, indexed, index, field, field_of, selected, pointed, member, arrow, denoted, named, verdict_of}
+use Rattle.ax_names_types.specs.Verdicts.{sooner, both, on, pair, needed, as_value, same_ty, pointer_int, sides, binary, negated, followed, addressed, unless_function, unary, chosen, cond, indexed, index, field, field_of, selected, pointed, member, arrow, denoted, named, verdict_of}
 use Rattle.ax_names_types.proofs.Layers.{verdict_of-Unary, verdict_of-Binary, verdict_of-Cond, verdict_of-Index, verdict_of-Member, verdict_of-Arrow}
 use Rattle.ax_names_types.proofs.Equality.{same_is, differs, same_itself, struct_is}
 use Rattle.ax_names_types.proofs.Sound.{clash, int_left, int_right, pointer_left, pointer_right, sooner_left, sooner_right, as_value_is, choice}
-use Rattle.ax_names_types.proofs.Meant.{binary_of, member_is, arrow_is, pointer_int_null, means_verdict}
+use Rattle.ax_names_types.proofs.Meant.{binary_of, member_is, arrow_is, pointer_int_null, means_verdict, means_place}
 use denote.Hole.Carrier
 
 -- the verdict is a fault, at this one or sooner
@@ -70,16 +70,16 @@ value_misses want at m v h k = (fault WrongType at, rw (h, k) refl, omega arith)
 moved_to : (v w : Verdict Typed) (g : TypeFault) → v ≡ w → Faulty w g → Faulty v g
 moved_to v w g h k = (k.0, h ∙ k.1, k.2)
 
-unary_faulty : (op : Prefix) (at : Span) (v : Verdict Typed) (g : TypeFault) → is_address op ≡ false → Faulty (as_value (unary_need op) at v) g → Faulty (unary op at v) g
-unary_faulty pre.Address at v g h k = cc
-unary_faulty pre.Deref at v g h k = on_faulty followed (as_value need.Pointer at v) g k
-unary_faulty pre.Neg at v g h k = on_faulty (negated pre.Neg) (as_value need.Int at v) g k
-unary_faulty pre.Not at v g h k = on_faulty (negated pre.Not) (as_value need.Int at v) g k
-unary_faulty pre.BitNot at v g h k = on_faulty (negated pre.BitNot) (as_value need.Int at v) g k
+unary_faulty : (op : Prefix) (b : Bool) (at : Span) (v : Verdict Typed) (g : TypeFault) → is_address op ≡ false → Faulty (as_value (unary_need op) at v) g → Faulty (unary op b at v) g
+unary_faulty pre.Address b at v g h k = cc
+unary_faulty pre.Deref b at v g h k = on_faulty followed (as_value need.Pointer at v) g k
+unary_faulty pre.Neg b at v g h k = on_faulty (negated pre.Neg) (as_value need.Int at v) g k
+unary_faulty pre.Not b at v g h k = on_faulty (negated pre.Not) (as_value need.Int at v) g k
+unary_faulty pre.BitNot b at v g h k = on_faulty (negated pre.BitNot) (as_value need.Int at v) g k
 
 -- what goes wrong with an operand goes wrong with the whole
 needs_faulty : (env : Env) (x a : Expr) (want : Need) (g : TypeFault) → Needs x a want → Faulty (as_value want (span_of a) (verdict_of env a)) g → Faulty (verdict_of env x) g
-needs_faulty env x a want g (Needs.operand {at = at} {op = op} b h) k = moved_to _ _ g (verdict_of-Unary env at op b) (unary_faulty op (span_of b) (verdict_of env b) g h k)
+needs_faulty env x a want g (Needs.operand {at = at} {op = op} b h) k = moved_to _ _ g (verdict_of-Unary env at op b) (unary_faulty op (is_function env.names b) (span_of b) (verdict_of env b) g h k)
 needs_faulty env x a want g (Needs.left {at = at} {op = op} b c) k = moved_to _ _ g (verdict_of-Binary env at op b c) (both_left (sides op at (is_zero b) (is_zero c)) _ _ g k)
 needs_faulty env x a want g (Needs.right {at = at} {op = op} b c) k = moved_to _ _ g (verdict_of-Binary env at op b c) (both_right (sides op at (is_zero b) (is_zero c)) _ _ g k)
 needs_faulty env x a want g (Needs.test {at = at} b c d) k = moved_to _ _ g (verdict_of-Cond env at b c d) (both_left choice _ _ g k)
@@ -90,10 +90,19 @@ needs_faulty env x a want g (Needs.index {at = at} b c) k = moved_to _ _ g (verd
 needs_faulty env x a want g (Needs.member {at = at} b y) k = moved_to _ _ g (verdict_of-Member env at b y) (on_faulty (selected env.structs y (span_of b)) _ g k)
 needs_faulty env x a want g (Needs.arrow {at = at} b y) k = moved_to _ _ g (verdict_of-Arrow env at b y) (on_faulty (pointed env.structs y (span_of b)) _ g k)
 
-address_faulty : (at : Span) (m : Typed) (v : Verdict Typed) → v ≡ Ok m → ((u : Ty) (l : Lval) → m ≡ t.Place u l → ⊥) → Faulty (unary pre.Address at v) (fault NotLvalue at)
+address_faulty : (at : Span) (m : Typed) (v : Verdict Typed) → v ≡ Ok m → ((u : Ty) (l : Lval) → m ≡ t.Place u l → ⊥) → Faulty (on (addressed at) v) (fault NotLvalue at)
 address_faulty at (t.Place u l) v h k = absurd (k u l refl)
 address_faulty at (t.Int x xs) v h k = (fault NotLvalue at, rw h refl, omega arith)
 address_faulty at (t.Ptr u q) v h k = (fault NotLvalue at, rw h refl, omega arith)
+
+-- where a place is wanted
+pub function_faulty : (b : Bool) (at : Span) (v : Verdict Typed) → b ≡ true → Faulty (unless_function b at v) (fault NotLvalue at)
+function_faulty true at v h = (fault NotLvalue at, refl, omega arith)
+function_faulty false at v h = cc
+
+pub place_faulty : (b : Bool) (at : Span) (v : Verdict Typed) (g : TypeFault) → b ≡ false → Faulty v g → Faulty (unless_function b at v) g
+place_faulty false at v g h k = k
+place_faulty true at v g h k = cc
 
 sides_faulty : (env : Env) (at : Span) (op : Bin) (a b : Expr) (m n v w : Typed) → Means env a m → Means env b n → Is a m v → Is b n w → meets (left_need op) v ≡ true → meets (right_need op) w ≡ true → sides op at (is_zero a) (is_zero b) v w ≡ Err (fault WrongType at) → Faulty (verdict_of env (s.Binary at op a b)) (fault WrongType at)
 sides_faulty env at op a b m n v w da db ha hb ka kb k =
@@ -115,8 +124,11 @@ breaks_verdict env x g (Breaks.unknown {at = at} h) = (fault UnknownName at, rw 
 breaks_verdict env x g (Breaks.function {at = at} d k h c) = (fault WrongType at, rw (h, c) refl, omega arith)
 breaks_verdict env x g (Breaks.within {a = a} {want = want} n d) = needs_faulty env x a want g n (value_faulty want (span_of a) (verdict_of env a) g (breaks_verdict env a g d))
 breaks_verdict env x g (Breaks.kind {a = a} {want = want} {m = m} n d k) = needs_faulty env x a want g n (value_misses want (span_of a) m (verdict_of env a) (means_verdict env a m d) k)
-breaks_verdict env x g (Breaks.in_address {at = at} {a = a} d) = moved_to _ _ g (verdict_of-Unary env at pre.Address a) (on_faulty (addressed (span_of a)) (verdict_of env a) g (breaks_verdict env a g d))
-breaks_verdict env x g (Breaks.no_place {at = at} {a = a} {m = m} d k) = moved_to _ _ g (verdict_of-Unary env at pre.Address a) (address_faulty (span_of a) m (verdict_of env a) (means_verdict env a m d) k)
+breaks_verdict env x g (Breaks.function_address {at = at} a h) =
+    moved_to _ _ (fault NotLvalue (span_of a)) (verdict_of-Unary env at pre.Address a) (on_faulty (addressed (span_of a)) _ (fault NotLvalue (span_of a)) (function_faulty (is_function env.names a) (span_of a) (verdict_of env a) h))
+breaks_verdict env x g (Breaks.in_address {at = at} {a = a} h d) =
+    moved_to _ _ g (verdict_of-Unary env at pre.Address a) (on_faulty (addressed (span_of a)) _ g (place_faulty (is_function env.names a) (span_of a) (verdict_of env a) g h (breaks_verdict env a g d)))
+breaks_verdict env x g (Breaks.no_place {at = at} {a = a} {m = m} d k) = moved_to _ _ g (verdict_of-Unary env at pre.Address a) (address_faulty (span_of a) m _ (means_place env a m d) k)
 breaks_verdict env x g (Breaks.unlike {at = at} {op = op} {a = a} {b = b} {m = va} {n = vb} u v q r c da db ha hb other) =
     sides_faulty env at op a b va vb (t.Ptr u q) (t.Ptr v r) da db ha hb (pointer_left op u q c) (pointer_right op v r c) (rw (differs u v other) refl)
 breaks_verdict env x g (Breaks.left_number {at = at} {op = op} {a = a} {b = b} {m = va} {n = vb} v r y ys c z da db ha hb) =

@@ -17,7 +17,7 @@ use Rattle.ax_parse_grammar.specs.declared.tree.Expr.TheBlock.{shape-the_row-Exp
 use Rattle.ax_parse_grammar.specs.Trees.{span_of}
 use Rattle.ax_names_types.specs.declared.Entry.{Entry}
 use Rattle.ax_names_types.specs.declared.Typed.TheVariants as t
-use Rattle.ax_names_types.specs.Scopes.{Env, or_else}
+use Rattle.ax_names_types.specs.Scopes.{Env, or_else, is_function}
 use Rattle.ax_names_types.specs.Types.{value_of_place, is_zero}
 use Rattle.ax_names_types.specs.Verdicts.{same_ty, unary, binary, cond, index, member, arrow, verdict_of}
 use denote.Hole.Carrier
@@ -80,7 +80,7 @@ pub ruleset types = (same_ty-Ptr-Int, same_ty-Ptr-Array, same_ty-Ptr-Struct, sam
 
 -- ---- expressions
 
-pub verdict_of-Unary : (env : Env) (at : Span) (op : Prefix) (a : Expr) → verdict_of env (s.Unary at op a) ≡ unary op (span_of a) (verdict_of env a)
+pub verdict_of-Unary : (env : Env) (at : Span) (op : Prefix) (a : Expr) → verdict_of env (s.Unary at op a) ≡ unary op (is_function env.names a) (span_of a) (verdict_of env a)
 unfolding shape-the_row-Expr-0 hidden-the_row-Expr-0 Carrier.hidden
 verdict_of-Unary env at op a = refl
 

@@ -34,11 +34,11 @@ use Rattle.ax_names_types.specs.declared.TypeKind.{TypeKind}
 use Rattle.ax_names_types.specs.declared.TypeKind.TheVariants.{UnknownName, WrongType, NotLvalue, MissingField}
 use Rattle.ax_names_types.specs.declared.TypeFault.{TypeFault}
 use Rattle.ax_names_types.specs.Faults.{fault, turn, Verdict}
-use Rattle.ax_names_types.specs.Scopes.{Env, innermost, member_of}
+use Rattle.ax_names_types.specs.Scopes.{Env, innermost, is_function, member_of}
 use Rattle.ax_names_types.specs.Types.{value_of, struct_of, meets, left_need, right_need, unary_need, is_comparison, is_address, is_arithmetic, un_of, compared, is_zero, is_call}
 use Rattle.ax_names_types.specs.Meaning.{Is, Means}
 use Rattle.ax_names_types.specs.Breaks.{Needs, Misses, Breaks, First, Exact}
-use Rattle.ax_names_types.specs.Verdicts.{sooner, both, on, pair, needed, as_value, same_ty, pointer_int, sides, binary, negated, followed, addressed, unary, chosen, cond, indexed, index, field, field_of, selected, pointed, member, arrow, denoted, named, verdict_of}
+use Rattle.ax_names_types.specs.Verdicts.{sooner, both, on, pair, needed, as_value, same_ty, pointer_int, sides, binary, negated, followed, addressed, unless_function, unary, chosen, cond, indexed, index, field, field_of, selected, pointed, member, arrow, denoted, named, verdict_of}
 use Rattle.ax_names_types.proofs.Layers.{verdict_of-Unary, verdict_of-Binary, verdict_of-Cond, verdict_of-Index, verdict_of-Member, verdict_of-Arrow}
 use Rattle.ax_names_types.proofs.Equality.{same_is, differs, same_itself, struct_is}
 use Rattle.ax_names_types.proofs.Sound.{clash, int_left, int_right, pointer_left, pointer_right, sooner_left, sooner_right, as_value_is, choice}
@@ -59,12 +59,12 @@ member_is structs y at m k l h = rw (as_value_is need.Struct at m (t.Place (ty.S
 pub arrow_is : (structs : List Struct) (y : word.Name) (at : Span) (m : Typed) (k : StructId) (q : Pexpr) → value_of at m ≡ t.Ptr (ty.Struct k) q → arrow structs y at (Ok m) ≡ field y (lval.Deref q) (member_of structs k y.text)
 arrow_is structs y at m k q h = rw (as_value_is need.StructPointer at m (t.Ptr (ty.Struct k) q) h refl) refl
 
-negated_of : (op : Prefix) (at : Span) (m : Typed) (x : ex.Expr) (xs : List (Atom × Span)) → is_arithmetic op ≡ true → value_of at m ≡ t.Int x xs → unary op at (Ok m) ≡ Ok (t.Int (e.Un (un_of op) x) xs)
-negated_of pre.Deref at m x xs h k = cc
-negated_of pre.Address at m x xs h k = cc
-negated_of pre.Neg at m x xs h k = rw (as_value_is need.Int at m (t.Int x xs) k refl) refl
-negated_of pre.Not at m x xs h k = rw (as_value_is need.Int at m (t.Int x xs) k refl) refl
-negated_of pre.BitNot at m x xs h k = rw (as_value_is need.Int at m (t.Int x xs) k refl) refl
+negated_of : (op : Prefix) (b : Bool) (at : Span) (m : Typed) (x : ex.Expr) (xs : List (Atom × Span)) → is_arithmetic op ≡ true → value_of at m ≡ t.Int x xs → unary op b at (Ok m) ≡ Ok (t.Int (e.Un (un_of op) x) xs)
+negated_of pre.Deref b at m x xs h k = cc
+negated_of pre.Address b at m x xs h k = cc
+negated_of pre.Neg b at m x xs h k = rw (as_value_is need.Int at m (t.Int x xs) k refl) refl
+negated_of pre.Not b at m x xs h k = rw (as_value_is need.Int at m (t.Int x xs) k refl) refl
+negated_of pre.BitNot b at m x xs h k = rw (as_value_is need.Int at m (t.Int x xs) k refl) refl
 
 pub pointer_int_null : (op : Bin) (at : Span) (b : Bool) (u : Ty) (q : Pexpr) (y : ex.Expr) → is_comparison op ≡ true → pointer_int op at b u q y ≡ (if b then Ok (compared op at q p.Null) else Err (fault WrongType at))
 pointer_int_null bin.Eq at b u q y h = refl
@@ -85,12 +85,30 @@ zero_verdict env (Member' at sh r x) h = cc
 zero_verdict env (Arrow' at sh r x) h = cc
 zero_verdict env (Call' at sh r sh2 r2) h = cc
 
+-- what means something is no function's name
+no_function : (env : Env) (a : Expr) (m : Typed) → Means env a m → is_function env.names a ≡ false
+no_function env a m (Means.name d id u h c) = rw (h, c) refl
+no_function env a m Means.number = refl
+no_function env a m (Means.unary y ys g d h) = refl
+no_function env a m (Means.deref u q d h) = refl
+no_function env a m (Means.address u l d) = refl
+no_function env a m (Means.binary y z ys zs da db ha hb) = refl
+no_function env a m (Means.plus u q y ys da db ha hb) = refl
+no_function env a m (Means.minus u q y ys da db ha hb) = refl
+no_function env a m (Means.pointers u q r c da db ha hb) = refl
+no_function env a m (Means.left_null b u r c z db hb) = refl
+no_function env a m (Means.right_null b u q c z da ha) = refl
+no_function env a m (Means.cond y z w ys zs ws dc da db hc ha hb) = refl
+no_function env a m (Means.index u q i is da db ha hb) = refl
+no_function env a m (Means.member k l i u d h f) = refl
+no_function env a m (Means.arrow k q i u d h f) = refl
+
 pub means_verdict : (env : Env) (x : Expr) (m : Typed) → Means env x m → verdict_of env x ≡ Ok m
 means_verdict env x m (Means.name d id u h c) = rw (h, c) refl
 means_verdict env x m Means.number = refl
-means_verdict env x m (Means.unary {at = at} {op = op} {a = a} {m = n} y ys g d h) = rw (verdict_of-Unary env at op a, means_verdict env a n d) (negated_of op (span_of a) n y ys g h)
+means_verdict env x m (Means.unary {at = at} {op = op} {a = a} {m = n} y ys g d h) = rw (verdict_of-Unary env at op a, means_verdict env a n d) (negated_of op (is_function env.names a) (span_of a) n y ys g h)
 means_verdict env x m (Means.deref {at = at} {a = a} {m = n} u q d h) = rw (verdict_of-Unary env at pre.Deref a, means_verdict env a n d, as_value_is need.Pointer (span_of a) n (t.Ptr u q) h refl) refl
-means_verdict env x m (Means.address {at = at} {a = a} u l d) = rw (verdict_of-Unary env at pre.Address a, means_verdict env a (t.Place u l) d) refl
+means_verdict env x m (Means.address {at = at} {a = a} u l d) = rw (verdict_of-Unary env at pre.Address a, no_function env a (t.Place u l) d, means_verdict env a (t.Place u l) d) refl
 means_verdict env x m (Means.binary {at = at} {op = op} {a = a} {b = b} {m = va} {n = vb} y z ys zs da db ha hb) =
     rw (verdict_of-Binary env at op a b, means_verdict env a va da, means_verdict env b vb db)
     (binary_of op at (span_of a) (span_of b) (is_zero a) (is_zero b) va vb (t.Int y ys) (t.Int z zs) ha hb (int_left op y ys) (int_right op z zs))
@@ -121,3 +139,7 @@ means_verdict env x m (Means.member {at = at} {a = a} {x = y} {m = va} k l i u d
     rw (verdict_of-Member env at a y, means_verdict env a va d) (member_is env.structs y (span_of a) va k l h ∙ ap (field y l) f)
 means_verdict env x m (Means.arrow {at = at} {a = a} {x = y} {m = va} k q i u d h f) =
     rw (verdict_of-Arrow env at a y, means_verdict env a va d) (arrow_is env.structs y (span_of a) va k q h ∙ ap (field y (lval.Deref q)) f)
+
+-- the same where a place is wanted
+pub means_place : (env : Env) (a : Expr) (m : Typed) → Means env a m → unless_function (is_function env.names a) (span_of a) (verdict_of env a) ≡ Ok m
+means_place env a m d = rw (no_function env a m d, means_verdict env a m d) refl

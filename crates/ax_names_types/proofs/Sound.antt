@@ -34,11 +34,11 @@ use Rattle.ax_names_types.specs.declared.TypeKind.{TypeKind}
 use Rattle.ax_names_types.specs.declared.TypeKind.TheVariants.{UnknownName, WrongType, NotLvalue, MissingField}
 use Rattle.ax_names_types.specs.declared.TypeFault.{TypeFault}
 use Rattle.ax_names_types.specs.Faults.{fault, turn, Verdict}
-use Rattle.ax_names_types.specs.Scopes.{Env, innermost, member_of}
+use Rattle.ax_names_types.specs.Scopes.{Env, innermost, is_function, member_of}
 use Rattle.ax_names_types.specs.Types.{value_of, struct_of, meets, left_need, right_need, unary_need, is_comparison, is_address, is_arithmetic, un_of, compared, is_zero, is_call}
 use Rattle.ax_names_types.specs.Meaning.{Is, Means}
 use Rattle.ax_names_types.specs.Breaks.{Needs, Misses, Breaks, First, Exact}
-use Rattle.ax_names_types.specs.Verdicts.{sooner, both, on, pair, needed, as_value, same_ty, pointer_int, sides, binary, negated, followed, addressed, unary, chosen, cond, indexed, index, field, field_of, selected, pointed, member, arrow, denoted, named, verdict_of}
+use Rattle.ax_names_types.specs.Verdicts.{sooner, both, on, pair, needed, as_value, same_ty, pointer_int, sides, binary, negated, followed, addressed, unless_function, unary, chosen, cond, indexed, index, field, field_of, selected, pointed, member, arrow, denoted, named, verdict_of}
 use Rattle.ax_names_types.proofs.Layers.{verdict_of-Unary, verdict_of-Binary, verdict_of-Cond, verdict_of-Index, verdict_of-Member, verdict_of-Arrow}
 use Rattle.ax_names_types.proofs.Equality.{same_is, differs, same_itself, struct_is}
 use denote.Hole.Carrier
@@ -230,14 +230,15 @@ is_place (t.Place u l) = true
 is_place (t.Int x xs) = false
 is_place (t.Ptr u q) = false
 
-addressed_judged : (env : Env) (at : Span) (a : Expr) (v : Verdict Typed) → Judged env a v → Judged env (s.Unary at pre.Address a) (on (addressed (span_of a)) v)
-addressed_judged env at a (Err f) d = Breaks.in_address d
-addressed_judged env at a (Ok (t.Place u l)) d = Means.address u l d
-addressed_judged env at a (Ok (t.Int x xs)) d = Breaks.no_place d (λ u l h. clash (is_place (t.Int x xs)) (ap is_place h) refl)
-addressed_judged env at a (Ok (t.Ptr v q)) d = Breaks.no_place d (λ u l h. clash (is_place (t.Ptr v q)) (ap is_place h) refl)
+addressed_judged : (env : Env) (at : Span) (a : Expr) (b : Bool) (v : Verdict Typed) → is_function env.names a ≡ b → Judged env a v → Judged env (s.Unary at pre.Address a) (on (addressed (span_of a)) (unless_function b (span_of a) v))
+addressed_judged env at a true v h d = Breaks.function_address a h
+addressed_judged env at a false (Err f) h d = Breaks.in_address h d
+addressed_judged env at a false (Ok (t.Place u l)) h d = Means.address u l d
+addressed_judged env at a false (Ok (t.Int x xs)) k d = Breaks.no_place d (λ u l h. clash (is_place (t.Int x xs)) (ap is_place h) refl)
+addressed_judged env at a false (Ok (t.Ptr v q)) k d = Breaks.no_place d (λ u l h. clash (is_place (t.Ptr v q)) (ap is_place h) refl)
 
-unary_judged : (env : Env) (at : Span) (op : Prefix) (a : Expr) (v : Verdict Typed) → Judged env a v → Judged env (s.Unary at op a) (unary op (span_of a) v)
-unary_judged env at pre.Address a v d = addressed_judged env at a v d
+unary_judged : (env : Env) (at : Span) (op : Prefix) (a : Expr) (v : Verdict Typed) → Judged env a v → Judged env (s.Unary at op a) (unary op (is_function env.names a) (span_of a) v)
+unary_judged env at pre.Address a v d = addressed_judged env at a (is_function env.names a) v refl d
 unary_judged env at pre.Deref a v d = on_judged env (s.Unary at pre.Deref a) a need.Pointer followed (as_value need.Pointer (span_of a) v) (Needs.operand a refl) (operand env need.Pointer a v d) (followed_judged env at a)
 unary_judged env at pre.Neg a v d = on_judged env (s.Unary at pre.Neg a) a need.Int (negated pre.Neg) (as_value need.Int (span_of a) v) (Needs.operand a refl) (operand env need.Int a v d) (λ m v. negated_judged env at pre.Neg a m v refl)
 unary_judged env at pre.Not a v d = on_judged env (s.Unary at pre.Not a) a need.Int (negated pre.Not) (as_value need.Int (span_of a) v) (Needs.operand a refl) (operand env need.Int a v d) (λ m v. negated_judged env at pre.Not a m v refl)

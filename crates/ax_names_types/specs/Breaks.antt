@@ -24,7 +24,7 @@ use Rattle.ax_names_types.specs.declared.Need.TheVariants as need
 use Rattle.ax_names_types.specs.declared.TypeKind.TheVariants.{UnknownName, WrongType, NotLvalue, MissingField}
 use Rattle.ax_names_types.specs.declared.TypeFault.{TypeFault}
 use Rattle.ax_names_types.specs.Faults.{fault, turn, Verdict}
-use Rattle.ax_names_types.specs.Scopes.{Env, innermost, member_of}
+use Rattle.ax_names_types.specs.Scopes.{Env, innermost, is_function, member_of}
 use Rattle.ax_names_types.specs.Types.{value_of, meets, left_need, right_need, unary_need, is_comparison, is_address, is_zero, is_call}
 use Rattle.ax_names_types.specs.Meaning.{Is, Means}
 
@@ -52,8 +52,9 @@ pub data Breaks (env : Env) : Expr → TypeFault → Type 0 where
   -- an operand breaks a rule, or isn't what is needed
   within : {x a : Expr} {want : Need} {f : TypeFault} → Needs x a want → Breaks env a f → Breaks env x f
   kind : {x a : Expr} {want : Need} {m : Typed} → Needs x a want → Means env a m → Misses want a m → Breaks env x (fault WrongType (span_of a))
-  -- 6.5.3.2: the operand of `&` is a place
-  in_address : {at : Span} {a : Expr} {f : TypeFault} → Breaks env a f → Breaks env (s.Unary at pre.Address a) f
+  -- 6.5.3.2: the operand of `&` is a place, and a function's name isn't one
+  function_address : {at : Span} (a : Expr) → is_function env.names a ≡ true → Breaks env (s.Unary at pre.Address a) (fault NotLvalue (span_of a))
+  in_address : {at : Span} {a : Expr} {f : TypeFault} → is_function env.names a ≡ false → Breaks env a f → Breaks env (s.Unary at pre.Address a) f
   no_place : {at : Span} {a : Expr} {m : Typed} → Means env a m → ((u : Ty) (l : Lval) → m ≡ t.Place u l → ⊥) → Breaks env (s.Unary at pre.Address a) (fault NotLvalue (span_of a))
   -- 6.5.9: pointers of two types, or a pointer and a number other than the literal 0
   unlike : {at : Span} {op : Bin} {a b : Expr} {m n : Typed} (u v : Ty) (q r : Pexpr) → is_comparison op ≡ true → Means env a m → Means env b n → Is a m (t.Ptr u q) → Is b n (t.Ptr v r) → (u ≡ v → ⊥) → Breaks env (s.Binary at op a b) (fault WrongType at)

@@ -29,7 +29,7 @@ use Rattle.ax_names_types.specs.declared.Need.TheVariants as need
 use Rattle.ax_names_types.specs.declared.TypeKind.TheVariants.{UnknownName, WrongType, NotLvalue, MissingField}
 use Rattle.ax_names_types.specs.declared.TypeFault.{TypeFault}
 use Rattle.ax_names_types.specs.Faults.{fault, turn, Verdict}
-use Rattle.ax_names_types.specs.Scopes.{Env, innermost, member_of}
+use Rattle.ax_names_types.specs.Scopes.{Env, innermost, is_function, member_of}
 use Rattle.ax_names_types.specs.Types.{value_of, struct_of, meets, left_need, right_need, compared, un_of, is_zero}
 
 abbrev pub sooner : TypeFault → TypeFault → TypeFault
@@ -96,10 +96,16 @@ abbrev pub addressed : Span → Typed → Verdict Typed
 addressed at (t.Place a l) = Ok (t.Ptr a (p.Address l))
 addressed at v = Err (fault NotLvalue at)
 
-abbrev pub unary : Prefix → Span → Verdict Typed → Verdict Typed
-unary pre.Deref part v = on followed (as_value need.Pointer part v)
-unary pre.Address part v = on (addressed part) v
-unary op part v = on (negated op) (as_value need.Int part v)
+-- where a place is wanted, a function's name is none
+abbrev pub unless_function : Bool → Span → Verdict Typed → Verdict Typed
+unless_function true at v = Err (fault NotLvalue at)
+unless_function false at v = v
+
+-- `b` says whether the operand is a function's name
+abbrev pub unary : Prefix → Bool → Span → Verdict Typed → Verdict Typed
+unary pre.Deref b part v = on followed (as_value need.Pointer part v)
+unary pre.Address b part v = on (addressed part) (unless_function b part v)
+unary op b part v = on (negated op) (as_value need.Int part v)
 
 -- ---- `?:`, indices, members, names
 
@@ -154,7 +160,7 @@ named at (Some d) = denoted at d.entity
 abbrev pub verdict_of : Env → Expr → Verdict Typed
 verdict_of env (Name at x) = named at (innermost x env.names)
 verdict_of env (Number at n) = Ok (t.Int (e.Num n) [])
-verdict_of env (Unary' at op s (more_of-Expr a end_of-Expr)) = unary op (span_of a) (verdict_of env a)
+verdict_of env (Unary' at op s (more_of-Expr a end_of-Expr)) = unary op (is_function env.names a) (span_of a) (verdict_of env a)
 verdict_of env (Binary' at op s (more_of-Expr a end_of-Expr) s2 (more_of-Expr b end_of-Expr)) =
     binary op at (is_zero a) (span_of a) (verdict_of env a) (is_zero b) (span_of b) (verdict_of env b)
 verdict_of env (Cond' at s (more_of-Expr c end_of-Expr) s2 (more_of-Expr a end_of-Expr) s3 (more_of-Expr b end_of-Expr)) =

@@ -16,7 +16,7 @@ use Rattle.ax_names_types.specs.declared.Typed.TheVariants as t
 use Rattle.ax_names_types.specs.declared.TypeKind.TheVariants.{WrongType}
 use Rattle.ax_names_types.specs.declared.TypeFault.{TypeFault}
 use Rattle.ax_names_types.specs.Faults.{Verdict, fault}
-use Rattle.ax_names_types.specs.Scopes.{Env, innermost}
+use Rattle.ax_names_types.specs.Scopes.{Env, innermost, is_function}
 use Rattle.ax_names_types.specs.Types.{is_zero}
 use Rattle.ax_names_types.specs.Verdicts.{named, verdict_of}
 use Rattle.ax_names_types.proofs.Layers.{verdict_of-Unary, verdict_of-Binary, verdict_of-Cond, verdict_of-Index, verdict_of-Member, verdict_of-Arrow}
@@ -92,9 +92,9 @@ pub record Walking (env : Env) (tree : Expr) (steps : List Step) (part : Expr) :
 down : (env : Env) (tree part a : Expr) (steps all : List Step) (s : Step) → Walking env tree steps part → verdict_of env part ≡ after env.structs s (verdict_of env a) → nodes a < nodes part → all ≡ steps ++ s ∷ [] → Walking env tree all a × (nodes a < nodes part)
 down env tree part a steps all s w e n p = (record { leads = rw (p, finished-append env.structs steps (s ∷ []) (verdict_of env a), ← e) w.leads; below = omega arith }, n)
 
-pub unary_down : {env : Env} {tree part : Expr} {steps : List Step} (all : List Step) (at : Span) (op : Prefix) (a b : Expr) (sp : Span) → Walking env tree steps part → part ≡ s.Unary at op a → b ≡ a → sp ≡ span_of a → all ≡ steps ++ step.Unary op sp ∷ [] → Walking env tree all b × (nodes b < nodes part)
-unary_down {env} {tree} {part} {steps} all at op a b sp w is q r p =
-    rw q (down env tree part a steps all (step.Unary op (span_of a)) w (rw is (verdict_of-Unary env at op a)) (rw is (omega (arith, nodes-Unary at op a))) (rw (← r) p))
+pub unary_down : {env : Env} {tree part : Expr} {steps : List Step} (all : List Step) (at : Span) (op : Prefix) (a b : Expr) (st : Step) → Walking env tree steps part → part ≡ s.Unary at op a → b ≡ a → st ≡ step.Unary op (is_function env.names a) (span_of a) → all ≡ steps ++ st ∷ [] → Walking env tree all b × (nodes b < nodes part)
+unary_down {env} {tree} {part} {steps} all at op a b st w is q e p =
+    rw q (down env tree part a steps all st w (rw (is, e) (verdict_of-Unary env at op a)) (rw is (omega (arith, nodes-Unary at op a))) p)
 
 pub binary_down : {env : Env} {tree part : Expr} {steps : List Step} (all : List Step) (at : Span) (op : Bin) (a b c : Expr) (st : Step) (right : Operand) → Walking env tree steps part → part ≡ s.Binary at op a b → c ≡ a → right ≡ operand_of env b → st ≡ step.Binary op at (is_zero a) (span_of a) right → all ≡ steps ++ st ∷ [] → Walking env tree all c × (nodes c < nodes part)
 binary_down {env} {tree} {part} {steps} all at op a b c st right w is q r e p =

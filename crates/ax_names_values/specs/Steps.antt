@@ -22,7 +22,7 @@ conditional_of env c a b = cond (span_of c) (verdict_of env c) (span_of a) (verd
 
 -- what a step makes of its operand
 abbrev pub after : List Struct → Step → Verdict Typed → Verdict Typed
-after structs (step.Unary op part) v = unary op part v
+after structs (step.Unary op b part) v = unary op b part v
 after structs (step.Binary op at zero left b) v = binary op at zero left v b.is_zero b.span b.verdict
 after structs (step.Index part b) v = index part v b.span b.verdict
 after structs (step.Member x part) v = member structs x part v

@@ -6,7 +6,7 @@ ghost use Rattle.ax_names_types.specs.declared.Typed.TheVariants.{Int as number,
 ghost use Rattle.ax_names_types.specs.declared.TypeKind.TheVariants.{WrongType, NotLvalue};
 ghost use Rattle.ax_names_types.specs.Faults.{fault};
 ghost use Rattle.ax_names_types.specs.Types.{left_need as left_need_of, right_need as right_need_of, un_of as un_of_prefix, compared as compared_of};
-ghost use Rattle.ax_names_types.specs.Verdicts.{pointer_int as pointer_int_of, sides as sides_of, binary as binary_of, negated as negated_of, followed as followed_of, addressed as addressed_of, unary as unary_of, on, both as both_of, chosen as chosen_of, cond as cond_of, same_ty as same_ty_of, as_value as as_value_of};
+ghost use Rattle.ax_names_types.specs.Verdicts.{pointer_int as pointer_int_of, sides as sides_of, binary as binary_of, negated as negated_of, followed as followed_of, addressed as addressed_of, unless_function as unless_function_of, unary as unary_of, on, both as both_of, chosen as chosen_of, cond as cond_of, same_ty as same_ty_of, as_value as as_value_of};
 
 use crate::Verdict;
 use crate::operands::{Operand, as_value, number_of, valued};
@@ -257,7 +257,7 @@ fn addressed(alloc: Global, at: Span, meaning: Typed) -> Result<Verdict, AllocEr
 
 // `*` of an operand (C11 6.5.3.2).
 fn dereferenced(alloc: Global, at: Span, operand: Verdict) -> Result<Verdict, AllocError>
-    ensures { IfOk result (λ v. v ≡ unary_of Prefix.Deref at operand) }
+    ensures { IfOk result (λ v. v ≡ on followed_of (as_value_of need.Pointer at operand)) }
 {
     match as_value(alloc, Need::Pointer, at, operand)? {
         Ok(value) => followed(alloc, value),
@@ -275,13 +275,30 @@ fn calculated(alloc: Global, op: Prefix, at: Span, operand: Verdict) -> Result<V
     }
 }
 
-/// What a unary operator makes of its operand, which stands at this span (C11 6.5.3).
-pub fn unary(alloc: Global, op: Prefix, at: Span, operand: Verdict) -> Result<Verdict, AllocError>
-    ensures { IfOk result (λ v. v ≡ unary_of op at operand) }
+// What stands where a place is wanted; a function's name is none.
+fn unless_function(is_function: bool, at: Span, operand: Verdict) -> Verdict
+    ensures { result ≡ unless_function_of is_function at operand }
+{
+    if is_function {
+        kept(Err(not_lvalue(at)), operand)
+    } else {
+        operand
+    }
+}
+
+/// What a unary operator makes of its operand, which stands at this span and may be a function's name (C11 6.5.3).
+pub fn unary(
+    alloc: Global,
+    op: Prefix,
+    is_function: bool,
+    at: Span,
+    operand: Verdict,
+) -> Result<Verdict, AllocError>
+    ensures { IfOk result (λ v. v ≡ unary_of op is_function at operand) }
 {
     match op {
         Prefix::Deref => dereferenced(alloc, at, operand),
-        Prefix::Address => match operand {
+        Prefix::Address => match unless_function(is_function, at, operand) {
             Ok(meaning) => addressed(alloc, at, meaning),
             Err(fault) => Ok(Err(fault)),
         },

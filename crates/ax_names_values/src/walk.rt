@@ -7,7 +7,7 @@ ghost use Rattle.std.specs.Prelude.{◌≡◌, [], Ok, IfOk};
 ghost use Rattle.ax_prog.specs.declared.Expr.TheVariants.{Num as num};
 ghost use Rattle.ax_names_types.specs.declared.Typed.TheVariants.{Int as number};
 ghost use Rattle.ax_parse_grammar.specs.Trees.{span_of as span_of_tree};
-ghost use Rattle.ax_names_types.specs.Scopes.{env_of};
+ghost use Rattle.ax_names_types.specs.Scopes.{env_of, is_function as is_function_name};
 ghost use Rattle.ax_names_types.specs.Types.{is_zero as is_zero_tree};
 ghost use Rattle.ax_names_types.specs.Verdicts.{verdict_of};
 ghost use Rattle.ax_names_values.specs.declared.walk.Step.TheVariants as step;
@@ -19,6 +19,7 @@ use crate::operators::{binary, cond, unary};
 use crate::places::{arrow, index, member, named};
 use ax_base::gather::three;
 use ax_names_types::faults::wrong_type;
+use ax_names_types::scopes::is_function;
 use ax_names_types::{Entry, Typed};
 use ax_parse_grammar::tree::{Expr, Name, Prefix, span_of};
 use ax_prog::{Bin, Span, Struct};
@@ -28,7 +29,8 @@ use std::alloc::{AllocError, Global};
 /// What is left to do with an operand, with the operand's span.
 #[derive(Drop)]
 pub enum Step {
-    Unary(Prefix, Span),
+    /// the operator, and whether the operand is a function's name
+    Unary(Prefix, bool, Span),
     /// the operator, where the whole stands, whether the left side is the literal 0, where it stands, and the right side
     Binary(Bin, Span, bool, Span, Operand),
     Index(Span, Operand),
@@ -70,6 +72,12 @@ fn copy_name(alloc: Global, name: &Name) -> Result<Name, AllocError>
     })
 }
 
+fn unary_step(op: Prefix, operand: &Expr, names: &[Entry]) -> Step
+    ensures { result ≡ step.Unary op (is_function_name names.now operand.now) (span_of_tree operand.now) }
+{
+    Step::Unary(op, is_function(names, operand), span_of(operand))
+}
+
 fn binary_step(op: Bin, at: Span, left: &Expr, right: Operand) -> Step
     ensures { result ≡ step.Binary op at (is_zero_tree left.now) (span_of_tree left.now) right }
 {
@@ -85,7 +93,7 @@ fn taken(
     ensures { IfOk result (λ v. v ≡ after structs.now step operand) }
 {
     match step {
-        Step::Unary(op, span) => unary(alloc, op, span, operand),
+        Step::Unary(op, of_function, span) => unary(alloc, op, of_function, span, operand),
         Step::Binary(op, at, is_zero, span, right) => {
             let left = Operand {
                 span,
@@ -180,7 +188,7 @@ pub fn typed(
                 return finish(alloc, structs, steps, Err(wrong_type(*at)));
             }
             Expr::Unary(_, op, a) => {
-                steps.push(Step::Unary(*op, span_of(a.get())))?;
+                steps.push(unary_step(*op, a.get(), names))?;
                 part = a.get();
             }
             Expr::Binary(at, op, a, b) => {

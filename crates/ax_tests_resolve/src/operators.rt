@@ -406,19 +406,19 @@ const FUNCTION_NAMES: [(&str, &str); 11] = [
     ),
     (
         "int f() { return 0; } int main() { int *p; p = &f; return 0; }",
-        "WrongType 48 49",
+        "NotLvalue 48 49",
     ),
     (
         "int f() { return 0; } int main() { f = 1; return 0; }",
-        "WrongType 35 36",
+        "NotLvalue 35 36",
     ),
     (
         "int f() { return 0; } int main() { f++; return 0; }",
-        "WrongType 35 36",
+        "NotLvalue 35 36",
     ),
     (
         "int f() { return 0; } int main() { scanf(\"%d\", &f); return 0; }",
-        "WrongType 48 49",
+        "NotLvalue 48 49",
     ),
     (
         "int f() { return 0; } int main() { int x = f; return 0; }",
@@ -431,7 +431,7 @@ const FUNCTION_NAMES: [(&str, &str); 11] = [
     ("int main() { return main == 0; }", "WrongType 20 24"),
 ];
 
-/// A function's name is no value.
+/// A function's name is no value, and no place.
 #[test]
 fn function_names(rt: HostRuntime) -> Result<(), Fail> {
     assert_eq!(rt; other_answer(rt.alloc(), &FUNCTION_NAMES)?.as_str(), "");

@@ -372,7 +372,7 @@ fn changed(rt: HostRuntime) -> Result<(), Fail> {
     Ok(())
 }
 
-const NO_PLACES: [(&str, &str); 27] = [
+const NO_PLACES: [(&str, &str); 35] = [
     (
         "int f(int *p, int *q, int x) { (x + 1) = 2; return 0; } int main() { return 0; }",
         "NotLvalue 32 37",
@@ -468,6 +468,38 @@ const NO_PLACES: [(&str, &str); 27] = [
         "NotLvalue 23 24",
     ),
     (
+        "int f() { return 0; } int main() { f += 1; return 0; }",
+        "NotLvalue 35 36",
+    ),
+    (
+        "int f() { return 0; } int main() { --f; return 0; }",
+        "NotLvalue 37 38",
+    ),
+    (
+        "int f() { return 0; } int main() { return *&(f); }",
+        "NotLvalue 45 46",
+    ),
+    (
+        "int f() { return 0; } int main() { *f = 1; return 0; }",
+        "WrongType 36 37",
+    ),
+    (
+        "int f() { return 0; } int main() { return -f; }",
+        "WrongType 43 44",
+    ),
+    (
+        "int f() { return 0; } int main() { f[0] = 1; return 0; }",
+        "WrongType 35 36",
+    ),
+    (
+        "int main() { int *p; p = &f; return 0; } int f() { return 0; }",
+        "UnknownName 26 27",
+    ),
+    (
+        "int f() { return 0; } int main() { int f; int *p; f = 1; f++; p = &f; return 0; }",
+        "program",
+    ),
+    (
         "int f(int a[2]) { a = 0; a++; a += 1; return 0; } int main() { return 0; }",
         "program",
     ),
@@ -477,7 +509,7 @@ const NO_PLACES: [(&str, &str); 27] = [
     ),
 ];
 
-/// What is assigned to, stepped, read or behind `&` is a place, and no array but behind `&`.
+/// What is assigned to, stepped, read or behind `&` is a place, no function, and no array but behind `&`.
 #[test]
 fn no_places(rt: HostRuntime) -> Result<(), Fail> {
     assert_eq!(rt; other_answer(rt.alloc(), &NO_PLACES)?.as_str(), "");

@@ -1,7 +1,7 @@
 use Rattle.std.proofs.Common.{arith, Err, refl, ap, ◌∙◌}
 use Rattle.ax_parse_grammar.specs.declared.tree.Expr.{Expr}
 use Rattle.ax_parse_grammar.specs.Trees.{span_of}
-use Rattle.ax_names_types.specs.Scopes.{env_of}
+use Rattle.ax_names_types.specs.Scopes.{env_of, is_function}
 use Rattle.ax_names_types.specs.Types.{is_zero}
 use Rattle.ax_names_values.specs.declared.walk.Step.TheVariants as step
 use Rattle.ax_names_values.specs.Steps.{operand_of}
@@ -36,10 +36,16 @@ typed-judged_operand-requires-in-Index t c =
     omega arith
 
 pub typed-down-smaller-in-Unary : goal.typed-down-smaller-in-Unary
-typed-down-smaller-in-Unary t c = (unary_down c.push.new.self c.in-Unary.field-0 c.in-Unary.op c.in-Unary.a c.get-part.result.now c.span_of.result c.down.invariant c.in-Unary.is c.get-part.ensures (c.span_of.ensures ∙ ap span_of c.get-in-Unary.ensures) c.in_ok-push-in-Unary.ensures.ok).1
+typed-down-smaller-in-Unary t c =
+    (unary_down c.push.new.self c.in-Unary.field-0 c.in-Unary.op c.in-Unary.a c.get-part.result.now c.unary_step.result c.down.invariant c.in-Unary.is c.get-part.ensures
+    (c.unary_step.ensures ∙ ap (λ (x : Expr). step.Unary c.in-Unary.op (is_function c.args.names.now x) (span_of x)) c.get-in-Unary.ensures)
+    c.in_ok-push-in-Unary.ensures.ok).1
 
 pub typed-down-preserved-in-Unary : goal.typed-down-preserved-in-Unary
-typed-down-preserved-in-Unary t c = (unary_down c.push.new.self c.in-Unary.field-0 c.in-Unary.op c.in-Unary.a c.get-part.result.now c.span_of.result c.down.invariant c.in-Unary.is c.get-part.ensures (c.span_of.ensures ∙ ap span_of c.get-in-Unary.ensures) c.in_ok-push-in-Unary.ensures.ok).0
+typed-down-preserved-in-Unary t c =
+    (unary_down c.push.new.self c.in-Unary.field-0 c.in-Unary.op c.in-Unary.a c.get-part.result.now c.unary_step.result c.down.invariant c.in-Unary.is c.get-part.ensures
+    (c.unary_step.ensures ∙ ap (λ (x : Expr). step.Unary c.in-Unary.op (is_function c.args.names.now x) (span_of x)) c.get-in-Unary.ensures)
+    c.in_ok-push-in-Unary.ensures.ok).0
 
 pub typed-down-smaller-in-Binary : goal.typed-down-smaller-in-Binary
 typed-down-smaller-in-Binary t c =
@@ -57,15 +63,15 @@ typed-down-preserved-in-Binary t c =
 
 pub typed-down-smaller-in-Index : goal.typed-down-smaller-in-Index
 typed-down-smaller-in-Index t c =
-    (index_down c.push-in-Index.new.self c.in-Index.field-0 c.in-Index.a c.in-Index.i c.get-part-in-Index.result.now c.span_of-in-Index.result c.in_ok-index-in-Index.index c.down.invariant c.in-Index.is c.get-part-in-Index.ensures
-    (c.span_of-in-Index.ensures ∙ ap span_of c.get-in-Index-2.ensures)
+    (index_down c.push-in-Index.new.self c.in-Index.field-0 c.in-Index.a c.in-Index.i c.get-part-in-Index.result.now c.span_of.result c.in_ok-index-in-Index.index c.down.invariant c.in-Index.is c.get-part-in-Index.ensures
+    (c.span_of.ensures ∙ ap span_of c.get-in-Index-2.ensures)
     (c.in_ok-index-in-Index.ensures ∙ ap (operand_of (env_of c.args.names.now c.args.structs.now)) c.get-in-Index.ensures)
     c.in_ok-push-in-Index.ensures.ok).1
 
 pub typed-down-preserved-in-Index : goal.typed-down-preserved-in-Index
 typed-down-preserved-in-Index t c =
-    (index_down c.push-in-Index.new.self c.in-Index.field-0 c.in-Index.a c.in-Index.i c.get-part-in-Index.result.now c.span_of-in-Index.result c.in_ok-index-in-Index.index c.down.invariant c.in-Index.is c.get-part-in-Index.ensures
-    (c.span_of-in-Index.ensures ∙ ap span_of c.get-in-Index-2.ensures)
+    (index_down c.push-in-Index.new.self c.in-Index.field-0 c.in-Index.a c.in-Index.i c.get-part-in-Index.result.now c.span_of.result c.in_ok-index-in-Index.index c.down.invariant c.in-Index.is c.get-part-in-Index.ensures
+    (c.span_of.ensures ∙ ap span_of c.get-in-Index-2.ensures)
     (c.in_ok-index-in-Index.ensures ∙ ap (operand_of (env_of c.args.names.now c.args.structs.now)) c.get-in-Index.ensures)
     c.in_ok-push-in-Index.ensures.ok).0
 
