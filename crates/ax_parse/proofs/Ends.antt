@@ -1,6 +1,7 @@
 -- What is left of a source behind a place, and what the end of reading says of it.
-use Rattle.std.proofs.Common.{◌≡◌, ℕ, zero, suc, ◌<◌, ◌≤◌, Bool, true, false, List, [], ◌∷◌, ◌++◌, Option, Some, None, Err, refl, sym, subst, ap, ◌∙◌, append-nil, arith, length, drop}
+use Rattle.std.proofs.Common.{◌≡◌, ℕ, zero, suc, ◌+◌, ◌<◌, ◌≤◌, Bool, true, false, List, [], ◌∷◌, ◌++◌, Option, Some, None, Err, refl, sym, subst, ap, ◌∙◌, append-nil, arith, length, take, drop, get_or}
 use Rattle.std.proofs.Common.{◌⊎◌, inl, inr}
+use Rattle.std.proofs.lemmas.List.{take_more, drop_more, take-append-drop}
 use Rattle.std.proofs.lemmas.Option.{none-some}
 use Rattle.ax_prog.specs.declared.tokens.Token.{Token}
 use Rattle.ax_parse_grammar.specs.declared.tree.Part.{Part}
@@ -12,6 +13,7 @@ use Rattle.ax_parse_grammar.specs.ReadSources.{tree_of, ends_source, top, source
 use Rattle.ax_parse_grammar.proofs.Tools.{also_1, settles_one}
 use Rattle.ax_parse_grammar.proofs.SourcesRead.{source_reads}
 use Rattle.ax_parse.proofs.SourcesSound.{source_sound}
+use Rattle.ax_parse_places.specs.Fronts.{BeginsNone, StopsAt}
 use Rattle.ax_parse_expressions.specs.declared.faults.ReadFault.{ReadFault}
 use Rattle.ax_parse_expressions.specs.declared.faults.ReadFault.TheVariants.{Memory, Syntax}
 use Rattle.ax_parse.specs.Found.{GivesAll}
@@ -43,3 +45,9 @@ no_tree ts s t h =
 pub unspelled : (ts : List Token) (d : ReadFault) → GivesAll {A = List Part} (Err d) (λ n. repeated ends_source top n ts) → (d ≡ Memory) ⊎ ((t : Tree) → SpellsTree t ts → ⊥)
 unspelled ts Memory h = inl refl
 unspelled ts (Syntax at) h = inr (no_tree ts h)
+
+-- a source stops before a token with which, and with those before it, no source begins
+pub stops_before : (ts : List Token) (n : ℕ) (d : Token) → n < length ts → BeginsNone (take (n + 1) ts) → StopsAt ts (get_or ts n d).span.from
+stops_before ts n d below none =
+    let split : ts ≡ take n ts ++ get_or ts n d ∷ drop (n + 1) ts = sym (take-append-drop n ts) ∙ ap (λ (l : List Token). take n ts ++ l) (drop_more ts n d below) in
+    StopsAt.token (take n ts) (drop (n + 1) ts) (get_or ts n d) split (subst BeginsNone (take_more ts n d below) none)

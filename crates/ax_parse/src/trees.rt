@@ -30,8 +30,8 @@ fn parts(alloc: Global, tokens: &[Token]) -> Result<Items<Part>, ReadFault>
     Ok(found)
 }
 
-// From the first token to the last.
-fn whole_extent(tokens: &[Token]) -> Span
+/// From the first token to the last; no bytes where there is none.
+pub fn whole_extent(tokens: &[Token]) -> Span
     ensures { result ≡ extent_of tokens.now }
 {
     if tokens.is_empty() {
@@ -44,7 +44,7 @@ fn whole_extent(tokens: &[Token]) -> Span
 ///
 /// # Errors
 ///
-/// `Syntax` where no tree is spelled; the number counts the tokens before the first one that can't go on.
+/// `Syntax` where no tree is spelled; the number counts the tokens before the one that didn't fit.
 pub fn read_tree(alloc: Global, tokens: &[Token]) -> Result<Tree, ReadFault>
     ensures spelled { IfOk result (λ t. SpellsTree t tokens.now) }
     ensures none { IfErr result (λ e. (e ≡ ReadFault.Memory) ⊎ ((t : Tree) → SpellsTree t tokens.now → ⊥)) }
