@@ -1,5 +1,6 @@
--- Why a token list is refused: the first of these that holds, in this order. It nests too deeply; no tree is spelled, and
--- there the tokens stop; in the tree that is spelled a call stands inside an expression; a part that the rule `expr` spells has more than 400 nodes.
+-- Why a token list is refused: the first of these that holds, in this order. It nests too deeply; no tree is spelled, and the
+-- place is where the tokens stop; in the tree that is spelled a call stands inside an expression; a part that the rule `expr`
+-- spells has more than 400 nodes.
 use Rattle.std.specs.Prelude.{◌≡◌, ℕ, List, Some, None}
 use Rattle.ax_prog.specs.declared.tokens.Token.{Token}
 use Rattle.ax_parse_limits.specs.Nesting.{first_too_deep}

@@ -56,8 +56,9 @@ fn tree_of(alloc: Global, tokens: &[Token]) -> Result<Tree, ParseFault>
 /// # Errors
 ///
 /// `TooDeep` at the first token behind which the measure of nesting exceeds 200; else `Syntax` where no tree is spelled, at the
-/// start of a token with which, and with those before it, no source begins, or at the end of the last token; else `CallInside` at the first call that stands inside an expression; else `ExprTooLarge` at the first part that the rule `expr`
-/// spells and that has more than 400 nodes.
+/// start of a token with which, and with those before it, no source begins, or at the end of the last token; else `CallInside`
+/// at the first call that stands inside an expression; else `ExprTooLarge` at the first part that the rule `expr` spells and
+/// that has more than 400 nodes.
 pub fn parse(alloc: Global, tokens: &[Token]) -> Result<Tree, ParseFault>
     ensures spelled { IfOk result (λ t. SpellsTree t tokens.now) }
     ensures shallow { IfOk result (λ t. first_too_deep tokens.now ≡ None) }

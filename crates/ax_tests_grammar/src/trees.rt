@@ -128,6 +128,52 @@ fn sources(rt: HostRuntime) -> Result<(), LexFault> {
     Ok(())
 }
 
+// No source begins with the tokens up to and including the one at the place.
+#[test]
+fn syntax_at(rt: HostRuntime) -> Result<(), LexFault> {
+    let rows = [
+        ("int f(void, int a);", 10),
+        ("int a[] ;", 8),
+        ("int a[3][] = {1};", 9),
+        ("int a[] = 1;", 10),
+        ("int g[2] = {};", 12),
+        ("int g[2] = {1, -, 2};", 16),
+        ("int main() { f(1) + 2; }", 18),
+        ("int main() { (f(1)); }", 19),
+        ("int main() { -f(1); }", 18),
+        ("int main() { a b; }", 15),
+        ("int main() { 1; }", 14),
+        ("int main() { a + 1 = 2; }", 15),
+        ("int main() { ++a++; }", 16),
+        ("int main() { *p--; }", 15),
+        ("int main() { x = y z; }", 19),
+        ("int main() { return a ? b; }", 25),
+        ("int main() { return f(1,); }", 24),
+        ("int main() { if (a) int b; }", 20),
+        ("int main() { else ; }", 13),
+        ("int main() { if (a) ; else ; else ; }", 29),
+        ("int main() { do ; while (a) }", 28),
+        ("int main() { for (int i = 0, ; ) ; }", 29),
+        ("int main() { for (f(); ; g();) ; }", 28),
+        ("int main() { printf(\"%d\", 1, 2); }", 27),
+        ("int main() { scanf(\"%d\", a); }", 25),
+        ("int main() { } }", 15),
+        ("struct s { int a = 1; };", 17),
+        ("struct s int x;", 9),
+        ("struct s a, *f(int);", 14),
+        ("void f(int a) int b;", 14),
+    ];
+    let alloc = rt.alloc();
+    for (source, wanted) in &rows {
+        let fault = format!(in alloc; "Syntax({wanted})")?;
+        assert!(rt;
+            outcome(alloc, source)?.as_str() == fault.as_str(),
+            "{source}"
+        );
+    }
+    Ok(())
+}
+
 #[test]
 fn long_sources(rt: HostRuntime) -> Result<(), LexFault> {
     let rows = [
