@@ -4,7 +4,7 @@ use Rattle.ax_outside.specs.Seen.{Adds, AddsPart, Holds, HoldsPart, NoLess, Rose
 use Rattle.ax_outside.proofs.Steps.{no_less-then}
 use Rattle.ax_top.specs.declared.answer.Answer.{Answer}
 use Rattle.ax_top.specs.declared.answer.Answer.TheVariants as answer
-use Rattle.ax_top.specs.Delivery.{Delivers, Delivery, Gives, Reports, print_failed, put_failed, whole}
+use Rattle.ax_top.specs.Delivery.{Delivers, Delivery, Gives, Prints, Reports, print_failed, put_failed, unprinted, whole}
 use Rattle.ax_top.specs.Repairs.{no_repair_report}
 
 -- a count that stood no lower before
@@ -13,7 +13,7 @@ rose-from before mid now less rose = omega arith
 
 module _ (old mid new : Seen) (out text lines : List ℕ) (own status : ℕ) where
   by-report : Holds (old.kept out) text (new.kept out) → mid.printed ≡ old.printed → NoLess old mid
-      → ((status ≡ own) × Adds mid.printed lines new.printed) ⊎ ((status ≡ 7) × AddsPart mid.printed lines new.printed × Rose mid.prints new.prints)
+      → ((status ≡ own) × Adds mid.printed lines new.printed) ⊎ ((status ≡ unprinted own) × AddsPart mid.printed lines new.printed × Rose mid.prints new.prints)
       → Delivery old new out text lines own status
   by-report holds same less (inl done) = whole done.0 holds (subst (λ p. Adds p lines new.printed) same done.1)
   by-report holds same less (inr failed) =
@@ -21,7 +21,7 @@ module _ (old mid new : Seen) (out text lines : List ℕ) (own status : ℕ) whe
 
   -- a put, and then a report
   pub put-then-report : Holds (old.kept out) text (mid.kept out) → ((f : List ℕ) → f ≢ out → mid.kept f ≡ old.kept f) → mid.printed ≡ old.printed
-      → NoLess old mid → Reports mid new lines own status → Delivers old new out text lines own status
+      → NoLess old mid → Prints mid new lines own (unprinted own) status → Delivers old new out text lines own status
   put-then-report holds others same less r = record {
     ended = by-report (subst (λ t. Holds (old.kept out) text t) (sym (r.kept out)) holds) same less r.ended;
     others = λ f h. r.kept f ∙ others f h;

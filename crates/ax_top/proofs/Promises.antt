@@ -71,11 +71,12 @@ module _ (old new : Seen) (rankers : List Handed) (words : List (List ℕ)) (sta
     one = λ h. absurd (omega arith);
     seven = λ h. inl (record { order = o; says = says; rose = inl rose });
   }
-  by-delivery o text lines says a (print_failed e holds adds rose) = record {
-    zero = λ h. absurd (omega arith);
-    one = λ h. absurd (omega arith);
-    seven = λ h. inl (record { order = o; says = says; rose = inr rose });
-  }
+  by-delivery o text lines says a (print_failed e holds adds rose) =
+      let is : status ≡ 7 = e in record {
+        zero = λ h. absurd (omega arith);
+        one = λ h. absurd (omega arith);
+        seven = λ h. inl (record { order = o; says = says; rose = inr rose });
+      }
 
   by-report : (o : RepairOrder) → Says words (Ok (Repair o)) → Answers old rankers o answer.NoRepair
       → ((status ≡ 1) × Adds old.printed no_repair_report new.printed) ⊎ ((status ≡ 7) × AddsPart old.printed no_repair_report new.printed × Rose old.prints new.prints)

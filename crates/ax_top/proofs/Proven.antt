@@ -12,7 +12,7 @@ use Rattle.ax_words.specs.declared.order.Order.TheVariants.{Prove}
 use Rattle.ax_words.specs.Words.{Says}
 use Rattle.ax_top.specs.declared.proving.Halt.{Halt}
 use Rattle.ax_top.specs.declared.proving.Halt.TheVariants as halt
-use Rattle.ax_top.specs.Delivery.{Delivery, print_failed, put_failed, whole}
+use Rattle.ax_top.specs.Delivery.{Delivery, print_failed, put_failed, unprinted, whole}
 use Rattle.ax_top.specs.Proving.{AsksToProve, CnfEnds, CnfRead, DoesProve, FoundModel, GaveLessOfProof, GivesLines, GivesOutcome, IsCnfLong, IsSaid, IsUndecided, RanOut, RefusedCnf, Refuses, WroteProof, cnf_limit, fails_to_give, fails_to_read, given, halt_report, halt_status, halted, memory, spends_budget, wants_memory}
 use Rattle.ax_top.specs.Reports.{Finishes}
 use Rattle.ax_top.proofs.Giving.{delivers-after, reports-after}
@@ -147,11 +147,18 @@ module _ (old new : Seen) (words : List (List ℕ)) (status : ℕ) (cnf proof : 
       zero = λ h. absurd (omega arith);
       one = λ h. absurd (omega arith);
       seven = λ h. absurd (omega arith);
-      nine = λ h. record { order = here; text = text; lines = shows; holds = holds; reports = adds };
+      nine = λ h. record { order = here; text = text; lines = shows; holds = holds; reports = inl adds };
       thirteen = λ h. absurd (omega arith);
     }
     by-lines text shows (put_failed e holds stays rose) = gave-less e (inl rose)
-    by-lines text shows (print_failed e holds adds rose) = gave-less e (inr rose)
+    by-lines text shows (print_failed e holds adds rose) =
+        let is : status ≡ 9 = e in record {
+          zero = λ h. absurd (omega arith);
+          one = λ h. absurd (omega arith);
+          seven = λ h. absurd (omega arith);
+          nine = λ h. record { order = here; text = text; lines = shows; holds = holds; reports = inr (adds, rose) };
+          thirteen = λ h. absurd (omega arith);
+        }
 
     by-outcome : (it : Outcome) → Shows f budget it → Decides f it → GivesOutcome old new (string_bytes proof) it status → Proven old new words status
     by-outcome (outcome.Model report) shows decides r = by-model report.items shows r.ended
@@ -222,16 +229,17 @@ module _ (old new : Seen) (words : List (List ℕ)) (status : ℕ) (cnf proof : 
   asked-report own report go (inr failed) = inr (fails_to_give failed.0 (inr failed.2))
 
   asked-delivery : (own : ℕ) (text report : List ℕ) → (status ≡ own → Goal ⊎ IsUndecided old new cnf proof status)
+      → (status ≡ unprinted own → Rose old.prints new.prints → Goal ⊎ IsUndecided old new cnf proof status)
       → Delivery old new (string_bytes proof) text report own status → Goal ⊎ IsUndecided old new cnf proof status
-  asked-delivery own text report go (whole e holds adds) = go e
-  asked-delivery own text report go (put_failed e holds stays rose) = inr (fails_to_give e (inl rose))
-  asked-delivery own text report go (print_failed e holds adds rose) = inr (fails_to_give e (inr rose))
+  asked-delivery own text report go lost (whole e holds adds) = go e
+  asked-delivery own text report go lost (put_failed e holds stays rose) = inr (fails_to_give e (inl rose))
+  asked-delivery own text report go lost (print_failed e holds adds rose) = lost e rose
 
   asked-outcome : (f : Formula) → formula_of bytes ≡ Ok f → (it : Outcome) → Decides f it → GivesOutcome old new (string_bytes proof) it status
       → Goal ⊎ IsUndecided old new cnf proof status
   asked-outcome f said (outcome.Model report) decides r = asked-report 1 report.items (λ e. inl (model f said decides e)) r.ended
-  asked-outcome f said (outcome.Refuted text) decides d = asked-delivery 0 text.items refuted_report (λ e. inl (none f said decides e)) d.ended
-  asked-outcome f said (outcome.Budget text) decides d = asked-delivery 9 text.items budget_report (λ e. inr (spends_budget e)) d.ended
+  asked-outcome f said (outcome.Refuted text) decides d = asked-delivery 0 text.items refuted_report (λ e. inl (none f said decides e)) (λ e rose. inr (fails_to_give e (inr rose))) d.ended
+  asked-outcome f said (outcome.Budget text) decides d = asked-delivery 9 text.items budget_report (λ e. inr (spends_budget e)) (λ e rose. inr (spends_budget e)) d.ended
 
   pub asked-ends : DoesProve old new (string_bytes cnf) (string_bytes proof) budget status → Goal ⊎ IsUndecided old new cnf proof status
   asked-ends (memory e same less) = inr (wants_memory e)

@@ -9,7 +9,7 @@ use Rattle.ax_dimacs.specs.Clauses.{Formula, formula_of}
 use Rattle.ax_prove.specs.declared.outcome.Outcome.{Outcome}
 use Rattle.ax_prove.specs.Outcomes.{Decides, HasModel, Shows, ShowsLines, lines_of, report_of, status_of}
 use Rattle.ax_prove.specs.Texts.{budget_report, model_report, proof_text, refuted_report}
-use Rattle.ax_outside.specs.Seen.{Adds, Holds, IsWhole, NoLess, OnKept, Rose, Same, Seen, Told}
+use Rattle.ax_outside.specs.Seen.{Adds, AddsPart, Holds, IsWhole, NoLess, OnKept, Rose, Same, Seen, Told}
 use Rattle.ax_words.specs.declared.order.Order.TheVariants.{Prove}
 use Rattle.ax_words.specs.Words.{Says}
 use Rattle.ax_top.specs.declared.proving.Halt.{Halt}
@@ -99,13 +99,13 @@ pub record FoundModel (old new : Seen) (words : List (List ℕ)) : Type 0 where
   pub model : IsModel order.formula.clauses order.formula.vars bits
   pub reports : Adds old.printed (model_report bits) new.printed
 
--- PROOF holds as many lines as the budget, each lawful and new.
+-- PROOF holds as many lines as the budget, each lawful and new. The report was printed, or its print failed after a part of it.
 pub record RanOut (old new : Seen) (words : List (List ℕ)) : Type 0 where
   pub order : IsSaid old words
   pub text : List ℕ
   pub lines : ShowsLines order.formula order.budget text
   pub holds : Holds (old.kept (string_bytes order.proof)) text (new.kept (string_bytes order.proof))
-  pub reports : Adds old.printed budget_report new.printed
+  pub reports : Adds old.printed budget_report new.printed ⊎ (AddsPart old.printed budget_report new.printed × Rose old.prints new.prints)
 
 -- The words are an order to prove, and CNF, read within its limit, is no clause file: this is its first fault.
 pub record RefusedCnf (old new : Seen) (words : List (List ℕ)) : Type 0 where
@@ -141,7 +141,7 @@ pub record AsksToProve (old : Seen) (words : List (List ℕ)) (cnf proof : Strin
   pub told : old.kept (string_bytes cnf) ≡ Some (Some bytes)
   pub short : length bytes ≤ cnf_limit
 
--- 9 only with the lines put, 13 only where the file is refused. Where the clauses have no model the status is 0, and where
+-- 9 only with the lines put, also where their report couldn't be printed, 13 only where the file is refused. Where the clauses have no model the status is 0, and where
 -- they have one it is 1, unless one of 6, 7, 9 and 10 came; where the file is refused it is 13, unless 6 or 10 came.
 pub record Proving (old new : Seen) (words : List (List ℕ)) (status : ℕ) : Type 0 where
   pub nine : status ≡ 9 → RanOut old new words

@@ -59,8 +59,8 @@ fn refuse_order<S: Shelf>(alloc: Global, order: &Order, stop: Stop, shelf: &mut 
 /// | 4 | the tests are no suite |
 /// | 5 | a file has more bytes than it may have: 268,435,456 for a certificate or a clause file, 1,048,576 for the others |
 /// | 6 | a file couldn't be read |
-/// | 7 | OUT or PROOF couldn't be put, or the report of 0, 1 or 9 couldn't be printed |
-/// | 9 | as many lines as the budget were written under PROOF |
+/// | 7 | OUT or PROOF couldn't be put, or the report of 0 or 1 couldn't be printed |
+/// | 9 | as many lines as the budget were written under PROOF, also where the report couldn't be printed |
 /// | 10 | memory was wanting |
 /// | 11 | the source isn't of the first form, or the rest of the order isn't built yet |
 /// | 13 | CNF is no clause file |
