@@ -55,14 +55,14 @@ fn refuse_order<S: Shelf>(alloc: Global, order: &Order, stop: Stop, shelf: &mut 
 /// | 0 | a least repair was written under OUT and reported, or a proof that clauses have no model under PROOF, or every test passes, or the candidates were ranked |
 /// | 1 | there is no repair, or the clauses have a model, or a test doesn't pass |
 /// | 2 | the words are no order, no handed-in ranker has the name that it needs, or a picked number is no candidate's |
-/// | 3 | the source spells no tokens, or they nest too deeply |
+/// | 3 | the source spells no program within the limits: the report names its first fault, and its place |
 /// | 4 | the tests are no suite |
 /// | 5 | a file has more bytes than it may have: 268,435,456 for a certificate or a clause file, 1,048,576 for the others |
 /// | 6 | a file couldn't be read |
 /// | 7 | OUT or PROOF couldn't be put, or the report of 0 or 1 couldn't be printed |
 /// | 9 | as many lines as the budget were written under PROOF, also where the report couldn't be printed |
 /// | 10 | memory was wanting |
-/// | 11 | the source isn't of the first form, or the rest of the order isn't built yet |
+/// | 11 | the order isn't built yet |
 /// | 13 | CNF is no clause file |
 ///
 /// The first of these comes in the order words, ranker, source, tests, picked numbers or certificate, as far as the
@@ -70,10 +70,10 @@ fn refuse_order<S: Shelf>(alloc: Global, order: &Order, stop: Stop, shelf: &mut 
 /// at 7 after a put that failed, nothing is. No name of the shelf but OUT or PROOF
 /// changes, OUT at 0 and 7 alone, and PROOF at 0, 7 and 9.
 ///
-/// An order to repair is built where it takes `cmp` alone and chooses one candidate of at most three binary operators,
-/// other than that of the `return 0;` at the end. Where it picks none, it chooses the first ones in the order of
-/// suspicion, by the first ranker of the name that it needs. That ranker sees the run of each test, and no other ranker
-/// sees a run. All rankers are dropped before the call answers.
+/// An order to repair is built where it takes `cmp` alone and chooses one candidate of at most three binary operators.
+/// Where it picks none, it chooses the first ones in the order of suspicion, by the first ranker of the name that it
+/// needs. That ranker sees the run of each test, and no other ranker sees a run. All rankers are dropped before the call
+/// answers.
 pub fn angelix<S: Shelf>(
     alloc: Global,
     words: Vec<String>,
