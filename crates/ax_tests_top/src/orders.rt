@@ -686,3 +686,45 @@ fn clauses_are_decided(rt: HostRuntime) -> Result<(), Fail> {
     }
     Ok(())
 }
+
+const FOUR_PIGEONS: &str = "p cnf 12 22
+1 2 3 0 4 5 6 0 7 8 9 0 10 11 12 0
+-1 -4 0 -1 -7 0 -1 -10 0 -4 -7 0 -4 -10 0 -7 -10 0
+-2 -5 0 -2 -8 0 -2 -11 0 -5 -8 0 -5 -11 0 -8 -11 0
+-3 -6 0 -3 -9 0 -3 -12 0 -6 -9 0 -6 -12 0 -9 -12 0
+";
+
+// A line of words, the call that fails, how many bytes it leaves, the status, and what is printed. Of the calls the first
+// two read CNF, the third puts PROOF, and the fourth prints.
+type Unprinted = (&'static str, u64, usize, u8, &'static str);
+
+const UNPRINTED: [Unprinted; 4] = [
+    ("prove f p --budget 1", 4, 6, 9, "budget"),
+    ("prove f p --budget 1", 4, 0, 9, ""),
+    ("prove f p --budget 1", 3, 0, 7, ""),
+    ("prove f p", 4, 6, 7, "s UNSA"),
+];
+
+fn is_unprinted(alloc: Global, row: Unprinted) -> Result<bool, AllocError> {
+    let (line, call, kept, want, printed) = row;
+    let mut shelf = MemShelf::new(alloc);
+    shelf.keep("f", FOUR_PIGEONS.as_bytes())?;
+    shelf.room(8, 4_096)?;
+    shelf.tear(call, kept)?;
+    let status = status_of_line(alloc, line, &mut shelf)?;
+    let is_put = shelf.bytes("p").is_some();
+    Ok(status == want && is_put && shelf.printed() == printed.as_bytes())
+}
+
+#[test]
+fn lines_that_are_put_stay_where_the_print_fails(rt: HostRuntime) -> Result<(), Fail> {
+    for row in UNPRINTED {
+        assert!(rt;
+            is_unprinted(rt.alloc(), row)?,
+            "{} at call {}",
+            row.0,
+            row.1
+        );
+    }
+    Ok(())
+}
