@@ -118,7 +118,7 @@ from_call (Some c) st = Done c st
 
 -- ---- acts
 
--- 6.5.16: the place first, then the value
+-- 6.5.16; the order is this language's own: the place first, then the value
 abbrev pub assign : Setting → Lval → Source → State → Got (Unit {0})
 assign r l source st =
     got_then (step r st)
@@ -161,7 +161,7 @@ changed_cell bin.Add (Ptr q) n = with_value (λ q. Ok (Ptr q)) (moved q n)
 changed_cell bin.Sub (Ptr q) n = with_value (λ q. Ok (Ptr q)) (moved_back q n)
 changed_cell op (Ptr q) n = Err NoValue
 
--- 6.5.16.2p3: the place once, then what is stored there, then the other operand
+-- 6.5.16.2p3; the order is this language's own: the place once, then what is stored there, then the other operand
 abbrev pub change : Setting → Lval → Bin → SlotId → State → Got (Unit {0})
 change r l op id st =
     got_then (step r st)
@@ -185,7 +185,7 @@ abbrev pub take_input : Place → List ℤ → State → Got (Unit {0})
 take_input at [] st = Halted (Undefined NoInput) st
 take_input at (z ∷ zs) st = put at (Int z) (record st { inputs = zs })
 
--- 7.21.6.4: `scanf("%d", &lv)`; the place first, then the next input
+-- 7.21.6.4; the order is this language's own: `scanf("%d", &lv)`, the place first, then the next input
 abbrev pub read : Setting → Lval → State → Got (Unit {0})
 read r l st =
     got_then (step r st) (λ u st. got_then (got_answer (place_of r.program st.store l) st) (λ at st. take_input at st.inputs st))
@@ -223,7 +223,7 @@ abbrev pub arg_values : Setting → List Arg → List Cell → State → Got (Li
 arg_values r [] cells st = Done cells st
 arg_values r (a ∷ rest) cells st = got_then (from_arg r a st) (λ c st. arg_values r rest (cells ++ c ∷ []) st)
 
--- 6.5.2.2p4: the step of a call, and the values of its arguments from left to right
+-- 6.5.2.2p4; the order is this language's own: the step of a call, and the values of its arguments from left to right
 abbrev pub call_args : Setting → List Arg → State → Got (List Cell)
 call_args r args st = got_then (step r st) (λ u st. arg_values r args [] st)
 

@@ -24,7 +24,7 @@ index_of m at = index_in (length m.cells) (slice_get m.objects at.object) at.cel
 abbrev pub cell_at : Store → Place → Answer Cell
 cell_at m at = with_value (λ i. value_or (slice_get m.cells i) OutOfBounds) (index_of m at)
 
--- 6.3.2.1p2: the value of a cell in which nothing was stored is not used
+-- 6.3.2.1p2, and for every cell this language's own rule: the value of a cell in which nothing was stored is not used
 abbrev pub stored_in : Cell → Answer Cell
 stored_in Empty = Err Uninit
 stored_in (Int n) = Ok (Int n)

@@ -44,7 +44,8 @@ moved (At s) i = at_index s (pos s.index +ℤ i)
 abbrev pub moved_back : Pointer → ℤ → Answer Pointer
 moved_back q i = moved q (neg_ℤ i)
 
--- 6.5.9p6: two pointers are equal where both are null, or are in one object at one cell
+-- 6.5.9p6, but for ends and ended objects, where the rule is this language's own: two pointers are equal where both are null,
+-- or are in one object at one cell. So a pointer past the end of an object equals none to another object.
 abbrev pub same_pointer : Pointer → Pointer → Bool
 same_pointer Null Null = true
 same_pointer Null (At s) = false
