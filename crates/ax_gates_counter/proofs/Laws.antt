@@ -11,7 +11,7 @@ use Rattle.ax_gates.proofs.Circuits.{over_within, as_clauses_true}
 use Rattle.ax_gates_counter.specs.Counter.{count_true, later_column, first_column, later_columns, columns, counter, IsExtended}
 use Rattle.ax_gates_counter.proofs.Counting.{bounded, last_literal, bounded_means, bounded_extends, count-agree}
 
-count-le : (v : ℕ → Bool) (xs : List Literal) → count_true v xs ≤ length xs
+pub count-le : (v : ℕ → Bool) (xs : List Literal) → count_true v xs ≤ length xs
 count-le v [] = omega arith
 count-le v (x ∷ xs) = let h = count-le v xs in let d = digit-lt (lit_value v x) in omega arith
 
@@ -54,7 +54,7 @@ later_grow n xs (suc j) (suc k) ps h =
     let r = later_grow (n + length xs) xs j k (fresh n xs) (omega arith) in
     (r.0, ap (λ (cs : List (List Literal)). later_column xs ps (fresh n xs) ++ cs) r.1 ∙ sym (append_assoc (later_column xs ps (fresh n xs)) (later_columns (n + length xs) xs j (fresh n xs)) r.0))
 
-as_clauses-append : (a b : List (List Literal)) → as_clauses (a ++ b) ≡ as_clauses a ++ as_clauses b
+pub as_clauses-append : (a b : List (List Literal)) → as_clauses (a ++ b) ≡ as_clauses a ++ as_clauses b
 as_clauses-append [] b = refl
 as_clauses-append (c ∷ a) b = ap (λ (cs : List (List Literal)). as_clause c ++ cs) (as_clauses-append a b) ∙ sym (append_assoc (as_clause c) (as_clauses a) (as_clauses b))
 
@@ -66,7 +66,7 @@ counter_grows n xs k j h =
     ∙ sym (append_assoc (first_column xs (fresh n xs)) (later_columns (n + length xs) xs j (fresh n xs)) r.0) in
     (as_clauses r.0, ap as_clauses e ∙ as_clauses-append (columns n xs j) r.0)
 
-counter_clauses : (n : ℕ) (xs : List Literal) (k : ℕ) → k < length xs → as_clauses (counter n xs k) ≡ as_clauses (columns n xs k) ++ as_clause (literal (n + length xs * (k + 1)) false ∷ [])
+pub counter_clauses : (n : ℕ) (xs : List Literal) (k : ℕ) → k < length xs → as_clauses (counter n xs k) ≡ as_clauses (columns n xs k) ++ as_clause (literal (n + length xs * (k + 1)) false ∷ [])
 counter_clauses n xs k l =
     ap (λ (b : Bool). as_clauses (if b then columns n xs k ++ (literal (n + length xs * (k + 1)) false ∷ []) ∷ [] else [])) (lt-ltb k (length xs) l)
     ∙ (as_clauses-append (columns n xs k) ((literal (n + length xs * (k + 1)) false ∷ []) ∷ [])

@@ -5,7 +5,8 @@ ghost use Rattle.ax_proof.specs.Literal.{literal, IsOver};
 ghost use Rattle.ax_proof.specs.Assignment.{satisfies};
 ghost use Rattle.ax_proof.specs.Runs.{Begins};
 ghost use Rattle.ax_gates.specs.Gates.{as_clause, as_clauses};
-ghost use Rattle.ax_gates_counter.specs.Counter.{count_true, columns, later_columns, counter, counter_vars, IsExtended};
+ghost use Rattle.ax_gates.specs.Words.{fresh};
+ghost use Rattle.ax_gates_counter.specs.Counter.{count_true, columns, later_column, later_columns, counter, counter_vars, IsExtended};
 
 use crate::columns::{push_first_column, push_later_column};
 use ax_gates::push_clause;
@@ -92,6 +93,7 @@ pub fn at_most(alloc: Global, cnf: &mut Cnf, inputs: &[Lit], bound: u64) -> Resu
     ensures means { (v : ℕ → Bool) → satisfies v (as_clauses (counter cnf.old.vars inputs.now bound)) ≡ true → count_true v inputs.now ≤ bound }
     ensures exact { IsOver cnf.old.vars inputs.now → (v : ℕ → Bool) → IsExtended cnf.old.vars v (as_clauses (counter cnf.old.vars inputs.now bound)) ↔ (count_true v inputs.now ≤ bound) }
     ensures grows { (smaller : ℕ) → smaller ≤ bound → Begins (as_clauses (columns cnf.old.vars inputs.now smaller)) (as_clauses (columns cnf.old.vars inputs.now bound)) }
+    ensures next_column { columns cnf.old.vars inputs.now (bound + 1) ≡ columns cnf.old.vars inputs.now bound ++ later_column inputs.now (fresh (cnf.old.vars + length inputs.now * bound) inputs.now) (fresh (cnf.old.vars + length inputs.now * (bound + 1)) inputs.now) }
 {
     push_counter(alloc, cnf, inputs, bound)
 }
