@@ -1,3 +1,4 @@
 pub mod Gives
 pub mod Sources
 pub mod Passing
+pub mod Within

@@ -13,3 +13,4 @@ pub mod printing;
 pub mod sources;
 pub mod start;
 pub mod steps;
+mod zeros;

@@ -1,75 +1,19 @@
 //! The start of a run: its globals begin without a step (C11 5.1.2p1, 6.7.9p10).
-ghost use Rattle.std.specs.Prelude.{◌≡◌, [], IfOk, None, OnOk, replicate, slice_get};
+ghost use Rattle.std.specs.Prelude.{◌≡◌, IfOk, None, OnOk, replicate, slice_get};
 ghost use Rattle.ax_meaning.specs.Types.{type_of_var};
 ghost use Rattle.ax_meaning.specs.Acts.{cells_of_var as cells_of_variable};
-ghost use Rattle.ax_meaning.specs.Runs.{repeated as repeated_of, zeros as zeros_of, zeros_of_fields as zeros_of_members, zeros_after, global_cells as cells_of_global, enter_globals as globals_entered, at_start};
+ghost use Rattle.ax_meaning.specs.Runs.{zeros as zeros_of, at_start};
+ghost use Rattle.ax_interp_acts.specs.Within.{cells_from, entered_from};
 
 use crate::declaring::listed_cells;
+use crate::zeros::{struct_zeros, zeros};
 use ax_interp_values::layout::Layout;
 use ax_interp_values::store::begin;
 use ax_interp_values::types::cells_of_var;
-use ax_meaning::{Cell, Pointer, State, Store};
-use ax_prog::{Init, Program, Ty, VarId};
+use ax_meaning::{Cell, State, Store};
+use ax_prog::{Init, Program, VarId};
 use sqlite_items::Items;
 use std::alloc::{AllocError, Global};
-
-fn repeated(alloc: Global, count: u32, cells: &Items<Cell>) -> Result<Items<Cell>, AllocError>
-    ensures { IfOk result (λ it. it ≡ repeated_of count cells.now) }
-{
-    let mut all = Items::new(alloc);
-    if cells.is_empty() {
-        return Ok(all);
-    }
-    for at in 0..count {
-        all.append(Items::from_slice(alloc, cells.as_slice())?)?;
-    }
-    Ok(all)
-}
-
-/// A zero for each int of a type and null for each pointer, where these are the zeros of the structs.
-#[tactic(auto, using(ax_meaning::proofs::Trees::types))]
-fn zeros(alloc: Global, structs: &Items<Items<Cell>>, ty: &Ty) -> Result<Items<Cell>, AllocError>
-    ensures { IfOk result (λ it. it ≡ zeros_of structs.now ty.now) }
-{
-    match ty {
-        Ty::Int => Items::from_slice(alloc, &[Cell::Int(0)]),
-        Ty::Ptr(_) => Items::from_slice(alloc, &[Cell::Ptr(Pointer::Null)]),
-        Ty::Array(t, n) => {
-            let cells = zeros(alloc, structs, t.get())?;
-            repeated(alloc, *n, &cells)
-        }
-        Ty::Struct(k) => match structs.get(k.0 as usize) {
-            None => Ok(Items::new(alloc)),
-            Some(cells) => Items::from_slice(alloc, cells.as_slice()),
-        },
-    }
-}
-
-fn zeros_of_fields(
-    alloc: Global,
-    structs: &Items<Items<Cell>>,
-    fields: &[(Items<u8>, Ty)],
-) -> Result<Items<Cell>, AllocError>
-    ensures { IfOk result (λ it. it ≡ zeros_of_members structs.now fields.now) }
-{
-    let mut all = Items::new(alloc);
-    for field in fields {
-        all.append(zeros(alloc, structs, &field.1)?)?;
-    }
-    Ok(all)
-}
-
-/// The zeros of each struct.
-fn struct_zeros(alloc: Global, program: &Program) -> Result<Items<Items<Cell>>, AllocError>
-    ensures { IfOk result (λ it. it ≡ zeros_after [] program.now.structs) }
-{
-    let mut done = Items::new(alloc);
-    for def in program.structs.as_slice() {
-        let cells = zeros_of_fields(alloc, &done, def.fields.as_slice())?;
-        done.push(cells)?;
-    }
-    Ok(done)
-}
 
 fn zeros_of_var(
     alloc: Global,
@@ -91,7 +35,7 @@ fn var_cells(id: VarId, layout: &Layout) -> u32
     cells_of_var(&layout.sizes, layout.program, id)
 }
 
-/// What a global starts with.
+// What a global starts with, where the structs have these zeros.
 fn global_cells(
     alloc: Global,
     layout: &Layout,
@@ -99,8 +43,7 @@ fn global_cells(
     id: VarId,
     init: &Init,
 ) -> Result<Items<Cell>, AllocError>
-    requires { structs.now ≡ zeros_after [] layout.now.program.now.structs }
-    ensures { IfOk result (λ it. it ≡ cells_of_global layout.now.program.now id init.now) }
+    ensures { IfOk result (λ it. it ≡ cells_from structs.now layout.now.program.now id init.now) }
 {
     match init {
         Init::List(ns) => listed_cells(alloc, var_cells(id, layout), ns.as_slice()),
@@ -115,8 +58,7 @@ fn enter_globals(
     structs: &Items<Items<Cell>>,
     state: &mut State,
 ) -> Result<(), AllocError>
-    requires { structs.now ≡ zeros_after [] layout.now.program.now.structs }
-    ensures { OnOk result (state.new ≡ globals_entered layout.now.program.now layout.now.program.now.globals state.old) }
+    ensures { OnOk result (state.new ≡ entered_from structs.now layout.now.program.now layout.now.program.now.globals state.old) }
 {
     for global in layout.program.globals.as_slice() {
         let cells = global_cells(alloc, layout, structs, global.0, &global.1)?;
@@ -146,6 +88,7 @@ fn uncounted(alloc: Global, count: usize) -> Result<Items<u64>, AllocError>
 }
 
 /// The state in which `main` is called.
+#[tactic(auto, using(crate::proofs::Within::entered_by_marks))]
 pub fn start(alloc: Global, layout: &Layout, inputs: &[i32]) -> Result<State, AllocError>
     ensures { IfOk result (λ it. it ≡ at_start layout.now.program.now inputs.now) }
 {

@@ -1,6 +1,6 @@
 use Rattle.std.proofs.Common.{sym, add-one}
 use Rattle.ax_interp_acts.proofs.Repeats.{repeated-nil, repeated-last}
-use Rattle.ax_interp_acts.proofs.start.repeated.Goals as goal
+use Rattle.ax_interp_acts.proofs.zeros.repeated.Goals as goal
 
 pub returns-then-is_empty : goal.returns-then-is_empty
 returns-then-is_empty c = rw (c.new-all.ensures, c.is_empty.ensures.0 c.if-is_empty.true) (sym (repeated-nil c.args.count))
