@@ -1,5 +1,5 @@
 -- Zeros for the structs that objects have within them, and for no others.
-use Rattle.std.specs.Prelude.{ℕ, zero, suc, Bool, true, false, not, if◌then◌else◌, List, [], ◌∷◌, ◌++◌, length, replicate, Option, Some, None, slice_get, slice_set}
+use Rattle.std.specs.Prelude.{ℕ, zero, suc, Bool, true, false, not, List, [], ◌∷◌, ◌++◌, length, replicate, Option, Some, None, slice_get, slice_set}
 use Rattle.ax_prog.specs.declared.Ty.{Ty, Ptr', Array', more_of-Ty, end_of-Ty}
 use Rattle.ax_prog.specs.declared.Ty.TheVariants as ty
 use Rattle.ax_prog.specs.declared.VarId.{VarId}

@@ -545,7 +545,7 @@ fn control(rt: HostRuntime) -> Result<(), Fail> {
     Ok(())
 }
 
-const GLOBALS: [(&str, &str); 7] = [
+const GLOBALS: [(&str, &str); 9] = [
     (
         "int g = 5, a[3] = {1, 2}, *p = 0, z; int main() { return g * 100 + a[1] * 10 + a[2] + z + (p == 0); }",
         "returns 521",
@@ -568,12 +568,20 @@ const GLOBALS: [(&str, &str); 7] = [
         "returns -1",
     ),
     (
+        "struct s { int a[2000000000]; }; struct s *p; int main() { return p == 0; }",
+        "returns 1",
+    ),
+    (
+        "struct e { int a; struct e *p; }; struct w { struct e x[2]; int y; }; struct z { struct w v[2000000000]; }; struct w g[2]; struct z *q; int main() { if (g[1].x[1].p == 0 && q == 0) return g[0].x[1].a + g[1].y; return 1; }",
+        "returns 0",
+    ),
+    (
         "int g = -2147483647; int h = 0x7fffffff; int main() { return g + h; }",
         "returns 0",
     ),
 ];
 
-/// What globals begin with.
+/// What globals begin with. A struct that only pointers name takes no memory.
 #[test]
 fn globals(rt: HostRuntime) -> Result<(), Fail> {
     assert_eq!(rt; other_run(rt.alloc(), &GLOBALS)?.as_str(), "");
