@@ -1,24 +1,15 @@
 -- The check of lines one after another.
-use Rattle.std.proofs.Common.{◌≡◌, ℕ, ◌+◌, ◌<◌, ◌≤◌, List, [], ◌++◌, length, get_or, take, arith, sym, subst, ap, ◌∙◌}
+use Rattle.std.proofs.Common.{◌≡◌, ℕ, ◌+◌, ◌<◌, ◌≤◌, List, [], ◌++◌, length, get_or, take, arith, sym, subst, ◌∙◌}
 use Rattle.std.specs.List.{All}
-use Rattle.std.proofs.lemmas.List.{get_or-take, get_or_default, length-take, take_all, take-take}
-use Rattle.std.proofs.lemmas.List.Elements.{All-more, All-weaker, All-append, All-take}
+use Rattle.std.proofs.lemmas.List.{get_or-take, get_or_default, length-take, take-take}
+use Rattle.std.proofs.lemmas.List.Elements.{All-weaker, All-append, All-take}
 use borrow.Author.Count.{below_more}
 use Rattle.ax_proof.specs.Literal.{Literal, IsBelow}
 use Rattle.ax_proof.specs.Propagation.{HasRup}
-use Rattle.ax_proof.specs.Lines.{line_at, IsLawful, IsFirstUnlawful}
+use Rattle.ax_proof.specs.Lines.{line_at, IsFirstUnlawful}
 
 pub below_weaker : (cs : List (List Literal)) (s t : ℕ) → s ≤ t → All (IsBelow s) cs → All (IsBelow t) cs
 below_weaker cs s t le = All-weaker (IsBelow s) (IsBelow t) (λ c h l lin. let b : l.var < s = h l lin in omega arith) cs
-
-pub below_next : (cs : List (List Literal)) (i : ℕ) (c : List Literal) (s n t : ℕ) → i < length cs → c ≡ get_or cs i c → All (IsBelow s) (take i cs) → IsBelow n c → s ≤ t → n ≤ t → All (IsBelow t) (take (i + 1) cs)
-below_next cs i c s n t within here before now sl nl =
-    let family : List Literal → Type 0 = λ x. IsBelow t x in
-    let this : IsBelow t c = λ l lin. let b : l.var < n = now l lin in omega arith in
-    All-more (IsBelow t) cs i c within (below_weaker (take i cs) s t sl before) (subst family here this)
-
-pub below_end : (cs : List (List Literal)) (i s : ℕ) → length cs ≤ i → All (IsBelow s) (take i cs) → All (IsBelow s) cs
-below_end cs i s all h = rw take_all at h
 
 -- the clauses and a front of the lines, below a number above the variables of each
 pub below_front : (cs lines : List (List Literal)) (at s t n : ℕ) → s ≤ n → t ≤ n → All (IsBelow s) cs → All (IsBelow t) lines → All (IsBelow n) (cs ++ take at lines)

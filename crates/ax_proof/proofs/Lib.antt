@@ -11,3 +11,7 @@ pub mod Markings
 pub mod Rights
 pub mod Shows
 pub mod Models
+pub mod Namings
+pub mod Codes
+pub mod Names
+pub mod Denieds

@@ -1,5 +1,5 @@
 -- What assignments satisfy.
-use Rattle.std.proofs.Common.{◌≡◌, ◌≢◌, ◌↔◌, ℕ, zero, suc, ◌+◌, ◌<◌, ◌≤◌, List, [], ◌∷◌, ◌++◌, length, get_or, take, map, arith, ◌⊎◌, inl, inr, refl, sym, subst, ap, ◌∙◌, Bool, true, false, not, ◌&&◌, ◌||◌, Option, Some, None}
+use Rattle.std.proofs.Common.{◌≡◌, ◌≢◌, ℕ, zero, suc, ◌+◌, ◌≤◌, List, [], ◌∷◌, ◌++◌, length, take, map, arith, ◌⊎◌, inl, inr, refl, sym, subst, ap, ◌∙◌, Bool, true, false, not, ◌&&◌, ◌||◌, Option, Some, None}
 use Rattle.std.specs.List.{Contains}
 use Rattle.std.proofs.lemmas.List.{take_more, take_all}
 use Rattle.std.proofs.lemmas.List.Elements.{Contains-push}
@@ -7,9 +7,8 @@ use Rattle.ax_proof.specs.Literal.{Literal, negation}
 use Rattle.ax_proof.specs.Clause.{SameLiterals, Clashes, clause_of}
 use Rattle.ax_proof.specs.Assignment.{signed, lit_value, clause_true, option_true, satisfies}
 use Rattle.ax_proof.specs.Propagation.{Propagates, given, unit, Conflicts, HasRup}
-use Rattle.ax_proof.specs.Lines.{line_at, IsLawful, IsProof, IsNew}
-use Rattle.ax_proof.specs.Uses.{AreRight}
-use Rattle.ax_proof.specs.Laws.{ForcedHolds, LawfulHolds, ProofRefutes, NewIsNotEmpty, NewHasNoSubset, RightIsLawful}
+use Rattle.ax_proof.specs.Lines.{line_at, IsLawful}
+use Rattle.ax_proof.specs.Laws.{ForcedHolds, LawfulHolds, ProofRefutes, NewIsNotEmpty, NewHasNoSubset, RightIsLawful, OwnVariablesDecide}
 use Rattle.ax_proof.proofs.Lists.{Contains-here, Contains-there, Contains-cons_cases, Contains-none, Contains-map, Contains-mapped}
 use Rattle.ax_proof.proofs.Literals.{same_or_other}
 use Rattle.ax_proof.proofs.Clauses.{MatchClause, clause_of_says}
@@ -208,3 +207,18 @@ option_value v ls (Some c) (rising, same) = sym (clause_true_same v ls c same)
 -- the clause of some literals has their value, and where there is none, they hold in every assignment
 pub clause_of_true : (v : ℕ → Bool) (ls : List Literal) → option_true v (clause_of ls) ≡ clause_true v ls
 clause_of_true v ls = option_value v ls (clause_of ls) (clause_of_says ls)
+
+agree_head : (v w : ℕ → Bool) (x : Literal) (c : List Literal) → ((l : Literal) → Contains (x ∷ c) l → v l.var ≡ w l.var) → lit_value v x ≡ lit_value w x
+agree_head v w x c agree = let P : Bool → Bool = λ b. signed x.positive b in ap P (agree x (Contains-here x c))
+
+clause_agrees : (v w : ℕ → Bool) (c : List Literal) → ((l : Literal) → Contains c l → v l.var ≡ w l.var) → clause_true v c ≡ clause_true w c
+clause_agrees v w [] agree = refl
+clause_agrees v w (x ∷ c) agree =
+    ap (λ (b : Bool). b || clause_true v c) (agree_head v w x c agree)
+    ∙ ap (λ (b : Bool). lit_value w x || b) (clause_agrees v w c (λ l lin. agree l (Contains-there x c l lin)))
+
+pub own_variables_decide : OwnVariablesDecide
+own_variables_decide v w [] agree = refl
+own_variables_decide v w (c ∷ cs) agree =
+    ap (λ (b : Bool). b && satisfies v cs) (clause_agrees v w c (λ l lin. agree c l (Contains-here c cs) lin))
+    ∙ ap (λ (b : Bool). clause_true w c && b) (own_variables_decide v w cs (λ d l din lin. agree d l (Contains-there c cs d din) lin))

@@ -1,9 +1,10 @@
 -- Laws of unit propagation and of lines.
-use Rattle.std.specs.Prelude.{◌≡◌, ◌≢◌, ℕ, Bool, true, List, []}
-use Rattle.std.specs.List.{Contains}
-use Rattle.ax_proof.specs.Literal.{Literal}
+use Rattle.std.specs.Prelude.{◌≡◌, ◌≢◌, ◌↔◌, ℕ, Bool, true, List, []}
+use Rattle.std.specs.List.{All, Contains}
+use Rattle.ax_proof.specs.Literal.{Literal, IsBelow}
 use Rattle.ax_proof.specs.Assignment.{lit_value, satisfies}
-use Rattle.ax_proof.specs.Propagation.{Propagates}
+use Rattle.ax_proof.specs.Propagation.{Propagates, HasRup}
+use Rattle.ax_proof.specs.Naming.{renamed, all_renamed, IsOneToOne}
 use Rattle.ax_proof.specs.Lines.{IsLawful, IsProof, IsNew}
 use Rattle.ax_proof.specs.Uses.{AreRight}
 
@@ -34,3 +35,17 @@ NewHasNoSubset =
 -- lines that are right are lawful
 abbrev pub RightIsLawful : Type 0
 RightIsLawful = (clauses lines : List (List Literal)) (uses : List (List ℕ)) → AreRight clauses lines uses → IsLawful clauses lines
+
+-- assignments that agree on the variables of the clauses satisfy them alike
+abbrev pub OwnVariablesDecide : Type 0
+OwnVariablesDecide =
+    (v w : ℕ → Bool) (clauses : List (List Literal))
+    → ((c : List Literal) (l : Literal) → Contains clauses c → Contains c l → v l.var ≡ w l.var)
+    → satisfies v clauses ≡ satisfies w clauses
+
+-- reverse unit propagation doesn't depend on how variables are named
+abbrev pub NamesDoNotCount : Type 0
+NamesDoNotCount =
+    (f : ℕ → ℕ) (size : ℕ) (clauses : List (List Literal)) (line : List Literal)
+    → IsOneToOne f size → All (IsBelow size) clauses → IsBelow size line
+    → HasRup clauses line ↔ HasRup (all_renamed f clauses) (renamed f line)

@@ -5,6 +5,7 @@ pub mod Propagation
 pub mod Lines
 pub mod Uses
 pub mod Denied
+pub mod Naming
 pub mod Laws
 pub mod Trail
 pub mod Truths

@@ -2,7 +2,7 @@
 
 ghost use Rattle.std.specs.Prelude.{◌^◌, Contains, ◌≡◌, ◌↔◌, ◌<◌, ◌≤◌, All, [], IsTrue, IsNone, IfOk, IfSome, MatchBool, length};
 ghost use Rattle.std.specs.List.Sorted.{IsPermutation, IsNonDecreasingBy};
-ghost use Rattle.ax_proof.specs.Literal.{negation, code_of, IsBelow};
+ghost use Rattle.ax_proof.specs.Literal.{negation, code_of};
 ghost use Rattle.ax_proof.specs.Clause.{IsClause, Clashes, SameLiterals, Adds, clause_of};
 
 use crate::literal::Lit;
@@ -66,6 +66,14 @@ impl Clause {
         Ok(Some(clause))
     }
 
+    /// The clause of literals whose variables rise.
+    pub fn from_rising(lits: SmallVec<Lit, 4>) -> Clause
+        requires { IsClause lits.items }
+        ensures { result ≡ lits.items }
+    {
+        Clause { lits }
+    }
+
     /// The clause without literals.
     pub fn empty(alloc: Global) -> Clause
         ensures { result ≡ [] }
@@ -109,16 +117,5 @@ impl Clause {
         ensures { IsTrue result ↔ (self.now ≡ []) }
     {
         self.lits.is_empty()
-    }
-
-    /// A number above all its variables.
-    pub fn size(&self) -> usize
-        ensures below { IsBelow result self.now }
-        ensures bound { result ≤ 2 ^ 63 }
-    {
-        match self.lits.as_slice().last() {
-            Some(last) => last.var() as usize + 1,
-            None => 0,
-        }
     }
 }

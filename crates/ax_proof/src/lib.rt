@@ -4,9 +4,11 @@
 pub mod assignment;
 pub mod clause;
 pub mod denied;
+pub mod known;
 pub mod laws;
 pub mod lines;
 pub mod literal;
+pub mod naming;
 pub mod propagation;
 pub mod right;
 pub mod shown;

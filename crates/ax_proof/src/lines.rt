@@ -1,6 +1,6 @@
 //! The check that each line of a proof follows by unit propagation.
 
-ghost use Rattle.std.specs.Prelude.{◌≡◌, ◌↔◌, ◌++◌, ◌≤◌, ◌^◌, [], All, IfErr, OnOk, IsTrue};
+ghost use Rattle.std.specs.Prelude.{◌≡◌, ◌↔◌, ◌++◌, [], All, IfErr, OnOk, IsTrue};
 ghost use Rattle.ax_proof.specs.Literal.{IsBelow};
 ghost use Rattle.ax_proof.specs.Propagation.{HasRup};
 ghost use Rattle.ax_proof.specs.Lines.{IsLawful, EndsEmpty, IsFirstUnlawful};
@@ -8,6 +8,7 @@ ghost use Rattle.ax_proof.specs.Denied.{IfFault};
 
 use crate::clause::{Clause, Cnf, Line};
 use crate::denied::Denied;
+use crate::naming::over_few;
 use crate::propagation::{deny, propagate};
 use crate::trail::Trail;
 use std::alloc::Global;
@@ -16,18 +17,6 @@ use std::alloc::Global;
 #[derive(Clone, Copy, PartialEq, Eq, Debug)]
 pub struct BadLine {
     pub at: usize,
-}
-
-/// A number above all variables of the clauses.
-pub fn size_of(clauses: &[Clause]) -> usize
-    ensures below { All (IsBelow result) clauses.now }
-    ensures bound { result ≤ 2 ^ 63 }
-{
-    let mut size = 0;
-    for clause in clauses {
-        size = size.max(clause.size());
-    }
-    size
 }
 
 /// Whether the line has reverse unit propagation from the clauses and the lines. The trail is empty before and after.
@@ -45,19 +34,40 @@ fn has_rup(trail: &mut Trail, clauses: &[Clause], lines: &[Line], line: &Line) -
     conflict.is_some()
 }
 
-/// Checks that each line has reverse unit propagation from the clauses and the lines before it.
-pub fn check_lines(alloc: Global, cnf: &Cnf, lines: &[Line]) -> Result<(), Denied<BadLine>>
-    ensures lawful { OnOk result (IsLawful cnf.now.clauses.items lines.now) }
-    ensures fault { IfErr result (λ denied. IfFault denied (λ bad. IsFirstUnlawful cnf.now.clauses.items lines.now bad.at)) }
+/// `check_lines` by a table of the variables below `size`.
+fn check_below(
+    alloc: Global,
+    size: usize,
+    clauses: &[Clause],
+    lines: &[Line],
+) -> Result<(), Denied<BadLine>>
+    requires below { All (IsBelow size) clauses.now }
+    requires lines { All (IsBelow size) lines.now }
+    ensures lawful { OnOk result (IsLawful clauses.now lines.now) }
+    ensures fault { IfErr result (λ denied. IfFault denied (λ bad. IsFirstUnlawful clauses.now lines.now bad.at)) }
 {
-    let clauses = cnf.clauses.as_slice();
-    let mut trail = Trail::new(alloc, size_of(clauses).max(size_of(lines)))?;
+    let mut trail = Trail::new(alloc, size)?;
     for (at, line) in lines.iter().enumerate() {
         if !has_rup(&mut trail, clauses, &lines[..at], line) {
             return Err(Denied::Fault(BadLine { at }));
         }
     }
     Ok(())
+}
+
+/// Checks that each line has reverse unit propagation from the clauses and the lines before it. It takes memory in proportion
+/// to the number of literals, however great their variables are.
+pub fn check_lines(alloc: Global, cnf: &Cnf, lines: &[Line]) -> Result<(), Denied<BadLine>>
+    ensures lawful { OnOk result (IsLawful cnf.now.clauses.items lines.now) }
+    ensures fault { IfErr result (λ denied. IfFault denied (λ bad. IsFirstUnlawful cnf.now.clauses.items lines.now bad.at)) }
+{
+    let few = over_few(alloc, cnf.clauses.as_slice(), lines)?;
+    check_below(
+        alloc,
+        few.size,
+        few.clauses.as_slice(),
+        few.lines.as_slice(),
+    )
 }
 
 /// Whether the last line, and no other, is empty.

@@ -8,10 +8,11 @@ ghost use Rattle.ax_proof.specs.Denied.{IfFault};
 
 use crate::clause::{Cnf, Line};
 use crate::denied::Denied;
+use crate::known::Known;
 use crate::literal::Lit;
 use crate::shown::{Both, Shown};
 use crate::steps::Steps;
-use crate::trail::{Judgement, Trail, Truth};
+use crate::trail::{Judgement, Truth};
 use std::alloc::{AllocError, Global};
 use std::marker::Brand;
 use std::sync::ledger::{Blank, Ledger};
@@ -24,19 +25,19 @@ pub struct BadUse {
 
 /// What is known of the clause of this number.
 fn judge_shown<S: Shown, L: Ledger>(
-    trail: &Trail,
+    known: &Known,
     shown: &S,
     number: u64,
     steps: &mut Steps<L>,
 ) -> Judgement
     requires { IsNumber (S.clauses shown.now) number }
-    ensures judged { Judges trail.now.lits (numbered (S.clauses shown.now) number) result }
+    ensures judged { Judges known.now (numbered (S.clauses shown.now) number) result }
     ensures steps { steps.new ≤ steps.old + length (numbered (S.clauses shown.now) number) }
 {
     let mut unit: Option<Lit> = None;
     for place in 0..shown.width(number) {
         let lit = shown.lit(number, place, steps);
-        match trail.truth(lit) {
+        match known.truth(lit) {
             Truth::True => return Judgement::Satisfied,
             Truth::False => {}
             Truth::Open => match unit {
@@ -53,46 +54,44 @@ fn judge_shown<S: Shown, L: Ledger>(
 
 /// Makes each literal of the clause of this number false.
 fn deny_shown<S: Shown, L: Ledger>(
-    trail: &mut Trail,
+    known: &mut Known,
     shown: &S,
     number: u64,
     steps: &mut Steps<L>,
 ) -> Result<(), AllocError>
-    requires empty { trail.old.lits ≡ [] }
+    requires empty { known.old ≡ [] }
     requires number { IsNumber (S.clauses shown.now) number }
-    ensures lits { OnOk result (trail.new.lits ≡ map negation (numbered (S.clauses shown.now) number)) }
+    ensures lits { OnOk result (known.new ≡ map negation (numbered (S.clauses shown.now) number)) }
     ensures steps { steps.new ≤ steps.old + length (numbered (S.clauses shown.now) number) }
 {
     for place in 0..shown.width(number) {
         let lit = shown.lit(number, place, steps).negate();
-        trail.cover(lit)?;
-        trail.push(lit, 0);
+        known.push(lit)?;
     }
     Ok(())
 }
 
 /// Makes true what the clause of this number forces; `false` where it is no clause before `limit`, or forces nothing.
 fn force<S: Shown, L: Ledger>(
-    trail: &mut Trail,
+    known: &mut Known,
     shown: &S,
     limit: u64,
     number: u64,
     steps: &mut Steps<L>,
 ) -> Result<bool, AllocError>
     requires { IsNumber (S.clauses shown.now) limit }
-    ensures forced { IfOk result (λ yes. Forces (take (limit - 1) (S.clauses shown.now)) number trail.old.lits trail.new.lits yes) }
+    ensures forced { IfOk result (λ yes. Forces (take (limit - 1) (S.clauses shown.now)) number known.old known.new yes) }
     ensures steps { steps.new ≤ steps.old + length (numbered (S.clauses shown.now) number) }
 {
     if number == 0 || number >= limit {
         return Ok(false);
     }
-    match judge_shown(trail, shown, number, steps) {
+    match judge_shown(known, shown, number, steps) {
         Judgement::Satisfied => Ok(false),
         Judgement::Falsified => Ok(false),
         Judgement::Undecided => Ok(false),
         Judgement::Unit(lit) => {
-            trail.cover(lit)?;
-            trail.push(lit, 0);
+            known.push(lit)?;
             Ok(true)
         }
     }
@@ -100,20 +99,20 @@ fn force<S: Shown, L: Ledger>(
 
 /// Whether the clause of this number is one before `limit`, and is false.
 fn is_false<S: Shown, L: Ledger>(
-    trail: &Trail,
+    known: &Known,
     shown: &S,
     limit: u64,
     number: u64,
     steps: &mut Steps<L>,
 ) -> bool
     requires { IsNumber (S.clauses shown.now) limit }
-    ensures exact { IsTrue result ↔ Refutes (take (limit - 1) (S.clauses shown.now)) trail.now.lits (number ∷ []) }
+    ensures exact { IsTrue result ↔ Refutes (take (limit - 1) (S.clauses shown.now)) known.now (number ∷ []) }
     ensures steps { steps.new ≤ steps.old + length (numbered (S.clauses shown.now) number) }
 {
     if number == 0 || number >= limit {
         return false;
     }
-    match judge_shown(trail, shown, number, steps) {
+    match judge_shown(known, shown, number, steps) {
         Judgement::Satisfied => false,
         Judgement::Falsified => true,
         Judgement::Undecided => false,
@@ -123,44 +122,44 @@ fn is_false<S: Shown, L: Ledger>(
 
 /// Whether the used clauses in turn, all before `limit`, force a literal each, and the last is false.
 fn refutes<S: Shown, L: Ledger>(
-    trail: &mut Trail,
+    known: &mut Known,
     shown: &S,
     limit: u64,
     uses: &[u64],
     steps: &mut Steps<L>,
 ) -> Result<bool, AllocError>
     requires { IsNumber (S.clauses shown.now) limit }
-    ensures exact { IfOk result (λ yes. IsTrue yes ↔ Refutes (take (limit - 1) (S.clauses shown.now)) trail.old.lits uses.now) }
+    ensures exact { IfOk result (λ yes. IsTrue yes ↔ Refutes (take (limit - 1) (S.clauses shown.now)) known.old uses.now) }
     ensures steps { steps.new ≤ steps.old + named_literals (S.clauses shown.now) uses.now }
 {
     let Some((last, firsts)) = uses.split_last() else {
         return Ok(false);
     };
     for number in firsts {
-        if !force(trail, shown, limit, *number, steps)? {
+        if !force(known, shown, limit, *number, steps)? {
             return Ok(false);
         }
     }
-    Ok(is_false(trail, shown, limit, *last, steps))
+    Ok(is_false(known, shown, limit, *last, steps))
 }
 
-/// Whether the line of this number is right with these uses. The trail is empty before, and after an answer.
+/// Whether the line of this number is right with these uses. No literal is known before, and after an answer.
 fn is_right<S: Shown, L: Ledger>(
-    trail: &mut Trail,
+    known: &mut Known,
     shown: &S,
     number: u64,
     uses: &[u64],
     steps: &mut Steps<L>,
 ) -> Result<bool, AllocError>
-    requires empty { trail.old.lits ≡ [] }
+    requires empty { known.old ≡ [] }
     requires number { IsNumber (S.clauses shown.now) number }
     ensures exact { IfOk result (λ yes. IsTrue yes ↔ IsRight (take (number - 1) (S.clauses shown.now)) (numbered (S.clauses shown.now) number) uses.now) }
-    ensures empty { IfOk result (λ yes. trail.new.lits ≡ []) }
+    ensures empty { IfOk result (λ yes. known.new ≡ []) }
     ensures steps { steps.new ≤ steps.old + length (numbered (S.clauses shown.now) number) + named_literals (S.clauses shown.now) uses.now }
 {
-    deny_shown(trail, shown, number, steps)?;
-    let right = refutes(trail, shown, number, uses, steps)?;
-    trail.back(0);
+    deny_shown(known, shown, number, steps)?;
+    let right = refutes(known, shown, number, uses, steps)?;
+    known.clear();
     Ok(right)
 }
 
@@ -181,10 +180,10 @@ pub fn check_uses<S: Shown, L: Ledger>(
 {
     let count = shown.count();
     prove!(from - 1 + uses.len() as u64 == count);
-    let mut trail = Trail::new(alloc, 0)?;
+    let mut known = Known::new(alloc);
     for (at, named) in uses.iter().enumerate() {
         let number = from + at as u64;
-        if !is_right(&mut trail, shown, number, named.as_slice(), steps)? {
+        if !is_right(&mut known, shown, number, named.as_slice(), steps)? {
             return Err(Denied::Fault(BadUse { at }));
         }
     }

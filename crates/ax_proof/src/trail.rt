@@ -109,20 +109,6 @@ impl Trail {
         Ok(())
     }
 
-    /// Makes room for the literal's variable.
-    pub fn cover(&mut self, lit: Lit) -> Result<(), AllocError>
-        ensures done { OnOk result (lit.var < self.new.size) }
-        ensures lits { self.new.lits ≡ self.old.lits }
-        ensures reasons { self.new.reasons ≡ self.old.reasons }
-        ensures size { self.old.size ≤ self.new.size }
-    {
-        let var = lit.var() as usize;
-        if var < self.size() {
-            return Ok(());
-        }
-        self.widen(var + 1)
-    }
-
     /// The literals, in the order in which they became true.
     pub fn lits(&self) -> &[Lit]
         ensures value { result.now ≡ self.now.lits }

@@ -10,7 +10,8 @@ ghost use Rattle.ax_proof.specs.Denied.{IfFault};
 
 use crate::clause::{Clause, Cnf, Line};
 use crate::denied::Denied;
-use crate::lines::{BadLine, size_of};
+use crate::lines::BadLine;
+use crate::naming::over_few;
 use crate::propagation::{clause_numbered, deny, propagate};
 use crate::trail::Trail;
 use std::alloc::{AllocError, Global};
@@ -89,14 +90,19 @@ fn uses_of(
     Ok(Some(uses))
 }
 
-/// For each line, clauses that it uses, in order, as numbers from 1, where the lines go on from the clauses.
-pub fn find_uses(alloc: Global, cnf: &Cnf, lines: &[Line]) -> Result<Vec<Vec<u64>>, Denied<BadLine>>
+/// `find_uses` by a table of the variables below `size`.
+fn uses_below(
+    alloc: Global,
+    size: usize,
+    clauses: &[Clause],
+    lines: &[Line],
+) -> Result<Vec<Vec<u64>>, Denied<BadLine>>
+    requires below { All (IsBelow size) clauses.now }
+    requires lines { All (IsBelow size) lines.now }
     ensures count { IfOk result (λ uses. length uses.items ≡ length lines.now) }
-    ensures right { IfOk result (λ uses. AreRight cnf.now.clauses.items lines.now (lists uses.items)) }
-    ensures fault { IfErr result (λ denied. IfFault denied (λ bad. IsFirstUnlawful cnf.now.clauses.items lines.now bad.at)) }
+    ensures right { IfOk result (λ uses. AreRight clauses.now lines.now (lists uses.items)) }
+    ensures fault { IfErr result (λ denied. IfFault denied (λ bad. IsFirstUnlawful clauses.now lines.now bad.at)) }
 {
-    let clauses = cnf.clauses.as_slice();
-    let size = size_of(clauses).max(size_of(lines));
     let mut trail = Trail::new(alloc, size)?;
     let mut table = vec![in alloc; false; size]?;
     let marks = table.as_mut_slice();
@@ -108,4 +114,20 @@ pub fn find_uses(alloc: Global, cnf: &Cnf, lines: &[Line]) -> Result<Vec<Vec<u64
         }
     }
     Ok(all)
+}
+
+/// For each line, clauses that it uses, in order, as numbers from 1, where the lines go on from the clauses. It takes memory
+/// in proportion to the number of literals and of uses, however great the variables are.
+pub fn find_uses(alloc: Global, cnf: &Cnf, lines: &[Line]) -> Result<Vec<Vec<u64>>, Denied<BadLine>>
+    ensures count { IfOk result (λ uses. length uses.items ≡ length lines.now) }
+    ensures right { IfOk result (λ uses. AreRight cnf.now.clauses.items lines.now (lists uses.items)) }
+    ensures fault { IfErr result (λ denied. IfFault denied (λ bad. IsFirstUnlawful cnf.now.clauses.items lines.now bad.at)) }
+{
+    let few = over_few(alloc, cnf.clauses.as_slice(), lines)?;
+    uses_below(
+        alloc,
+        few.size,
+        few.clauses.as_slice(),
+        few.lines.as_slice(),
+    )
 }

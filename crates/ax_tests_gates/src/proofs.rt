@@ -84,12 +84,40 @@ fn uses_are_checked(rt: HostRuntime) -> Result<(), Fail> {
     Ok(())
 }
 
-/// A variable that no table has room for ends in want of memory.
+/// A variable that no table has room for.
+const HUGE: u64 = 1 << 62;
+
+/// Clauses of one, each of some literals.
+fn clauses_of(alloc: Global, lits: &[Lit]) -> Result<Cnf, Fail> {
+    let clause = Clause::from_lits(alloc, lits)?.ok_or("a clash")?;
+    Ok(Cnf {
+        vars: HUGE,
+        clauses: vec![in alloc; clause]?,
+    })
+}
+
 #[test]
-fn huge_variables_want_memory(rt: HostRuntime) -> Result<(), Fail> {
+fn huge_variables_are_checked(rt: HostRuntime) -> Result<(), Fail> {
     let alloc = rt.alloc();
     let cnf = read(alloc, SQUARE)?;
-    let huge = Clause::from_lits(alloc, &[Lit::new(1 << 62, true)])?.ok_or("a clash")?;
-    assert_eq!(rt; check_lines(alloc, &cnf, &[huge]), Err(Denied::Memory));
+    let huge = Lit::new(HUGE, true);
+    let alone = clauses_of(alloc, &[huge])?;
+    let bad = Denied::Fault(BadLine { at: 0 });
+    assert_eq!(rt; check_lines(alloc, &cnf, &alone.clauses), Err(bad));
+    let beside = clauses_of(alloc, &[huge, Lit::new(2, true)])?;
+    assert_eq!(rt; check_lines(alloc, &cnf, &beside.clauses), Ok(()));
+    Ok(())
+}
+
+#[test]
+fn huge_variables_are_used(rt: HostRuntime) -> Result<(), Fail> {
+    let alloc = rt.alloc();
+    let lines = clauses_of(alloc, &[Lit::new(HUGE, true), Lit::new(2, true)])?;
+    assert_eq!(rt; are_found(&rt, alloc, &lines)?, true);
+    let cnf = read(alloc, SQUARE)?;
+    let bad = Denied::Fault(BadUse { at: 0 });
+    let given = vec![in alloc; Vec::from_slice(alloc, &[3, 4])?]?;
+    assert_eq!(rt; given.len(), lines.clauses.len());
+    assert_eq!(rt; check_right(alloc, &cnf, &lines.clauses, &given), Err(bad));
     Ok(())
 }

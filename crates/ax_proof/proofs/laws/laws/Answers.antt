@@ -1,4 +1,5 @@
-use Rattle.ax_proof.proofs.Models.{forced_holds, lawful_holds, proof_refutes, new_is_not_empty, new_has_no_subset, right_is_lawful}
+use Rattle.ax_proof.proofs.Models.{forced_holds, lawful_holds, proof_refutes, new_is_not_empty, new_has_no_subset, right_is_lawful, own_variables_decide}
+use Rattle.ax_proof.proofs.Namings.{names_do_not_count}
 use Rattle.ax_proof.proofs.laws.laws.Goals as goal
 
 pub returns-clause-forced_holds : goal.returns-clause-forced_holds
@@ -18,3 +19,9 @@ returns-clause-new_has_no_subset c = new_has_no_subset
 
 pub returns-clause-right_is_lawful : goal.returns-clause-right_is_lawful
 returns-clause-right_is_lawful c = right_is_lawful
+
+pub returns-clause-own_variables_decide : goal.returns-clause-own_variables_decide
+returns-clause-own_variables_decide c = own_variables_decide
+
+pub returns-clause-names_do_not_count : goal.returns-clause-names_do_not_count
+returns-clause-names_do_not_count c = names_do_not_count

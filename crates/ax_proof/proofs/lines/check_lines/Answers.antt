@@ -1,29 +1,22 @@
-use Rattle.std.proofs.Common.{◌≡◌, ◌≤◌, ◌∙◌, arith, true}
-use Rattle.ax_proof.proofs.Checks.{below_front, below_line, lawful_more, first_unlawful}
+use Rattle.std.proofs.lemmas.Result.{on_ok_weaker}
+use Rattle.ax_proof.proofs.Denieds.{if_fault_weaker}
+use Rattle.ax_proof.proofs.Namings.{lawful_stands, first_unlawful_stands}
 use Rattle.ax_proof.proofs.lines.check_lines.Goals as goal
 
-pub has_rup-requires-clause-below : goal.has_rup-requires-clause-below
-has_rup-requires-clause-below c =
-    let size : c.loop-at.trail.size ≡ c.max.result = c.loop-at.invariant.size ∙ c.in_ok-trail.ensures.size in
-    let most = c.max.ensures in
-    below_front _ _ c.loop-at.at c.size_of.result c.size_of-2.result _ (omega arith) (omega arith) c.size_of.ensures.below c.size_of-2.ensures.below
+pub check_below-requires-clause-below : goal.check_below-requires-clause-below
+check_below-requires-clause-below c = rw c.as_slice-2.ensures.value c.in_ok-few.ensures.below
 
-pub has_rup-requires-clause-line : goal.has_rup-requires-clause-line
-has_rup-requires-clause-line c =
-    let size : c.loop-at.trail.size ≡ c.max.result = c.loop-at.invariant.size ∙ c.in_ok-trail.ensures.size in
-    let most = c.max.ensures in
-    below_line c.args.lines.now c.loop-at.at c.size_of-2.result _ c.index-lines-at.result (omega arith) c.loop-at-test.true c.index-lines-at.is c.size_of-2.ensures.below
+pub check_below-requires-clause-lines : goal.check_below-requires-clause-lines
+check_below-requires-clause-lines c = rw c.as_slice-3.ensures.value c.in_ok-few.ensures.lines_below
 
-pub returns-then-not-has_rup-clause-fault : goal.returns-then-not-has_rup-clause-fault
-returns-then-not-has_rup-clause-fault c =
-    first_unlawful _ _ _ c.loop-at.at c.index-lines-at.result c.as_slice-clauses.ensures.value c.loop-at-test.true c.index-lines-at.is c.loop-at.invariant.lawful
-    (λ h. let yes : c.has_rup.result ≡ true = c.has_rup.ensures.exact.1 h in cc)
+pub returns-clause-lawful : goal.returns-clause-lawful
+returns-clause-lawful c =
+    let stand = rw c.as_slice.ensures.value at c.in_ok-few.ensures in
+    let found = rw (c.as_slice-2.ensures.value, c.as_slice-3.ensures.value) at c.check_below.ensures.lawful in
+    on_ok_weaker c.check_below.result (lawful_stands _ _ _ _ _ stand) found
 
-pub loop-at-preserved : goal.loop-at-preserved
-loop-at-preserved c = record {
-  lawful =
-      lawful_more _ _ _ c.loop-at.at c.index-lines-at.result c.as_slice-clauses.ensures.value c.loop-at-test.true c.index-lines-at.is c.loop-at.invariant.lawful
-      (c.has_rup.ensures.exact.0 c.if-not-has_rup.false);
-  empty = c.has_rup.ensures.empty;
-  size = c.has_rup.ensures.size ∙ c.loop-at.invariant.size;
-}
+pub returns-clause-fault : goal.returns-clause-fault
+returns-clause-fault c =
+    let stand = rw c.as_slice.ensures.value at c.in_ok-few.ensures in
+    let found = rw (c.as_slice-2.ensures.value, c.as_slice-3.ensures.value) at c.check_below.ensures.fault in
+    if_fault_weaker c.check_below.result _ _ (λ bad h. first_unlawful_stands _ _ _ _ _ stand bad.at h) found

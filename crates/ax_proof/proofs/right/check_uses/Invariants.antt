@@ -5,7 +5,7 @@ use Rattle.ax_proof.proofs.right.check_uses.Given as goal
 
 abbrev pub invariant-loop-at : goal.invariant-loop-at
 invariant-loop-at g l = record {
-  empty : l.trail.lits ≡ [];
+  empty : l.known ≡ [];
   right :
       (k : ℕ) → k < l.at
       → IsRight (take (l.from - 1) (g.S.Shown.clauses l.shown) ++ take k (drop (l.from - 1) (g.S.Shown.clauses l.shown)))

@@ -1,35 +1,30 @@
-use Rattle.std.proofs.Common.{◌≡◌, ◌≤◌, ◌∙◌, arith, length-append}
-use Rattle.ax_proof.proofs.Checks.{below_front, below_line, first_unlawful}
-use Rattle.ax_proof.proofs.Rights.{rights_more, right_lawful}
+use Rattle.std.proofs.Common.{◌∙◌}
+use Rattle.std.proofs.lemmas.Result.{IfOk-weaker}
+use Rattle.ax_proof.specs.Uses.{lists}
+use Rattle.ax_proof.proofs.Denieds.{if_fault_weaker}
+use Rattle.ax_proof.proofs.Namings.{right_stands, first_unlawful_stands, lines_length}
 use Rattle.ax_proof.proofs.uses.find_uses.Goals as goal
 
-pub uses_of-requires-clause-below : goal.uses_of-requires-clause-below
-uses_of-requires-clause-below c =
-    let size : c.loop-at.trail.size ≡ c.max-size.result = c.loop-at.invariant.size ∙ c.in_ok-trail.ensures.size in
-    let most = c.max-size.ensures in
-    below_front _ _ c.loop-at.at c.size_of.result c.size_of-2.result _ (omega arith) (omega arith) c.size_of.ensures.below c.size_of-2.ensures.below
+pub uses_below-requires-clause-below : goal.uses_below-requires-clause-below
+uses_below-requires-clause-below c = rw c.as_slice-2.ensures.value c.in_ok-few.ensures.below
 
-pub uses_of-requires-clause-line : goal.uses_of-requires-clause-line
-uses_of-requires-clause-line c =
-    let size : c.loop-at.trail.size ≡ c.max-size.result = c.loop-at.invariant.size ∙ c.in_ok-trail.ensures.size in
-    let most = c.max-size.ensures in
-    below_line c.args.lines.now c.loop-at.at c.size_of-2.result _ c.index-lines-at.result (omega arith) c.loop-at-test.true c.index-lines-at.is c.size_of-2.ensures.below
+pub uses_below-requires-clause-lines : goal.uses_below-requires-clause-lines
+uses_below-requires-clause-lines c = rw c.as_slice-3.ensures.value c.in_ok-few.ensures.lines_below
 
-pub returns-in-None-clause-fault : goal.returns-in-None-clause-fault
-returns-in-None-clause-fault c =
-    let found = rw c.in-None.is at c.in_ok-uses.ensures.found in
-    first_unlawful _ _ _ c.loop-at.at c.index-lines-at.result c.as_slice-clauses.ensures.value c.loop-at-test.true c.index-lines-at.is
-    (λ k h. right_lawful _ _ _ (c.loop-at.invariant.right k h)) found
+pub returns-clause-count : goal.returns-clause-count
+returns-clause-count c =
+    let stand = rw c.as_slice.ensures.value at c.in_ok-few.ensures in
+    let found = rw c.as_slice-3.ensures.value at c.uses_below.ensures.count in
+    IfOk-weaker c.uses_below.result _ _ (λ uses h. h ∙ lines_length _ _ _ _ _ stand) found
 
-pub loop-at-preserved : goal.loop-at-preserved
-loop-at-preserved c =
-    let found = rw c.in-Some.is at c.in_ok-uses.ensures.found in
-    record {
-      count = let n = c.loop-at.invariant.count in rw c.in_ok-push-in-Some.ensures.items (simp length-append (omega arith));
-      right =
-          rights_more _ _ _ c.loop-at.at c.index-lines-at.result c.as_slice-clauses.ensures.value c.loop-at-test.true c.index-lines-at.is
-          c.loop-at.all.items _ c.in-Some.uses c.loop-at.invariant.count c.in_ok-push-in-Some.ensures.items c.loop-at.invariant.right found;
-      empty = c.in_ok-uses.ensures.empty;
-      size = c.uses_of.ensures.size ∙ c.loop-at.invariant.size;
-      marks = c.uses_of.auto.marks ∙ c.loop-at.invariant.marks;
-    }
+pub returns-clause-right : goal.returns-clause-right
+returns-clause-right c =
+    let stand = rw c.as_slice.ensures.value at c.in_ok-few.ensures in
+    let found = rw (c.as_slice-2.ensures.value, c.as_slice-3.ensures.value) at c.uses_below.ensures.right in
+    IfOk-weaker c.uses_below.result _ _ (λ uses h. right_stands _ _ _ _ _ stand (lists uses.items) h) found
+
+pub returns-clause-fault : goal.returns-clause-fault
+returns-clause-fault c =
+    let stand = rw c.as_slice.ensures.value at c.in_ok-few.ensures in
+    let found = rw (c.as_slice-2.ensures.value, c.as_slice-3.ensures.value) at c.uses_below.ensures.fault in
+    if_fault_weaker c.uses_below.result _ _ (λ bad h. first_unlawful_stands _ _ _ _ _ stand bad.at h) found
