@@ -11,13 +11,10 @@ use Rattle.ax_prog.specs.declared.Test.{Test}
 use Rattle.ax_space.specs.declared.Patch.{Patch}
 use Rattle.ax_space.specs.Chosen.{space_of}
 use Rattle.ax_least.specs.Least.{IsRepair}
-use Rattle.ax_front.specs.Texts.{IsProgramOfText}
-use Rattle.ax_front.proofs.Refusals.{one_program_of_text}
-use Rattle.ax_suite.proofs.Single.{one_suite}
 use Rattle.ax_rank_coverage.specs.Handed.{Handed, ranker_named}
 use Rattle.ax_rank_coverage.specs.Orders.{IsOrderOf, OneCandidateOrder, first_numbers}
 use Rattle.ax_rank.specs.declared.places.Standing.{Standing}
-use Rattle.ax_outside.specs.Seen.{IsWhole, Seen, Told}
+use Rattle.ax_outside.specs.Seen.{Seen}
 use Rattle.ax_words.specs.Laws.{SameChoice, SameRepair}
 use Rattle.ax_words.specs.Words.{Says}
 use Rattle.ax_words.specs.declared.order.Choice.{Choice}
@@ -25,13 +22,12 @@ use Rattle.ax_words.specs.declared.order.Choice.TheVariants.{Pick, Top}
 use Rattle.ax_words.specs.declared.order.Order.TheVariants.{Repair}
 use Rattle.ax_words.specs.declared.order.RepairOrder.{RepairOrder}
 use Rattle.ax_words.proofs.Single.{one_order}
-use Rattle.ax_top.specs.declared.files.File.TheVariants as file
 use Rattle.ax_top.specs.Built.{chosen_of, space_for}
 use Rattle.ax_top.specs.Choices.{ChoosesNumbers, IsChoice}
 use Rattle.ax_top.specs.Complete.{IsAsked}
-use Rattle.ax_top.specs.Files.{WasRead, limit_of}
 use Rattle.ax_top.specs.Judging.{IsSource, IsTests}
 use Rattle.ax_top.specs.Repairs.{IsSought}
+use Rattle.ax_top.proofs.Filed.{one-program, one-tests}
 
 -- ---- tasks
 
@@ -91,21 +87,15 @@ module _ (law : OneCandidateOrder) (old : Seen) (rankers : List Handed) (words :
   same-order it says = one_order words (Repair it) (Repair o) says asked.says
 
   module _ (it : RepairOrder) (same : SameRepair it o) where
-    pub source-told : old.kept (string_bytes it.source) ≡ Some (Some asked.source)
-    source-told = ap old.kept same.source ∙ asked.source_told
-
-    pub tests-told : old.kept (string_bytes it.tests) ≡ Some (Some asked.tests)
-    tests-told = ap old.kept same.tests ∙ asked.tests_told
-
     pub same-program : (bytes : List ℕ) (p : Program) → IsSource (old.kept (string_bytes it.source)) bytes p → p ≡ program
     same-program bytes p is =
-        let read : IsWhole asked.source bytes (limit_of file.Source) = subst (λ (t : Told). WasRead t file.Source bytes) source-told is.read in
-        one_program_of_text asked.source p program (subst (λ (b : List ℕ). IsProgramOfText b p) read.same is.meant) asked.spelled
+        one-program old (string_bytes o.source) (string_bytes o.tests) program suite asked.files bytes p
+        (subst (λ (name : List ℕ). IsSource (old.kept name) bytes p) same.source is)
 
     pub same-tests : (s : Suite) → IsTests (old.kept (string_bytes it.tests)) s → s.tests ≡ suite.tests
     same-tests s is =
-        let here = subst (λ (t : Told). IsTests t s) tests-told is in
-        one_suite asked.tests s.tests suite.tests here.1 asked.tested
+        one-tests old (string_bytes o.source) (string_bytes o.tests) program suite asked.files s
+        (subst (λ (name : List ℕ). IsTests (old.kept name) s) same.tests is)
 
     -- what the order chooses is what is asked
     pub chosen-there : (p : Program) (ts : List Test) (ns : List ℕ) → p ≡ program → ts ≡ suite.tests → ChoosesNumbers rankers it p ts ns

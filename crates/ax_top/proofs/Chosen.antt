@@ -1,6 +1,6 @@
 -- The chosen expression of an order that is built, and its changes.
-use Rattle.std.proofs.Common.{◌≡◌, ◌∙◌, ℕ, zero, suc, ◌<◌, ◌+◌, ◌-◌, Bool, true, false, not, List, [], ◌∷◌, length, slice_get, Some, None, IsTrue, refl, sym, ap, subst, inl, inr, arith}
-use Rattle.std.specs.Prelude.{◌↔◌, ◌&&◌, nat_lt, Option, Ok, Err, Result, option_and_then, option_map, if◌then◌else◌}
+use Rattle.std.proofs.Common.{◌≡◌, ◌∙◌, ℕ, zero, suc, ◌<◌, ◌-◌, Bool, true, false, not, List, [], ◌∷◌, slice_get, Some, None, IsTrue, refl, sym, ap, subst, inl, inr, arith}
+use Rattle.std.specs.Prelude.{◌↔◌, ◌&&◌, Option, Ok, Err, Result, option_and_then, option_map, if◌then◌else◌}
 use Rattle.std.specs.List.{All, AllPairs, Contains}
 use Rattle.std.proofs.lemmas.Bool.Decides.{same_from_decides}
 use Rattle.std.proofs.lemmas.Option.{slice_get_cases, get_or_from_slice_get}

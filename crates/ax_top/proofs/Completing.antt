@@ -27,14 +27,15 @@ use Rattle.ax_top.specs.Repairs.{Answers, no_repair_report}
 use Rattle.ax_top.specs.Reports.{stop_status}
 use Rattle.ax_top.proofs.Asked.{SameTask, repair-back, repair-there, same-order, same-task}
 use Rattle.ax_top.proofs.Told.{no-repair}
-use Rattle.ax_top.proofs.Unstopped.{cut-off, cut-off-later}
+use Rattle.ax_top.proofs.Filed.{cut-short-later}
+use Rattle.ax_top.proofs.Unstopped.{cut-off}
 
 module _ (law : OneCandidateOrder) (old new : Seen) (rankers : List Handed) (words : List (List ℕ)) (status : ℕ) (o : RepairOrder) (program : Program) (suite : Suite) (chosen : List SlotId)
     (asked : IsAsked old rankers words o program suite chosen) where
   by-stop : (order : Order) (why : Stop) (mid : Seen) → Says words (Ok order) → Stops old mid rankers order why → NoLess mid new
       → IsCutOff old new o (stop_status why)
   by-stop (Repair it) why mid says stops less =
-      cut-off-later old mid new o (stop_status why) less
+      cut-short-later old mid new (string_bytes o.source) (string_bytes o.tests) (stop_status why) less
       (cut-off law old mid rankers words o program suite chosen asked it (same-order law old rankers words o program suite chosen asked it says) why stops)
   by-stop (Check source tests patched cert) why mid says stops less = absurd (one_order words (Check source tests patched cert) (Repair o) says asked.says)
   by-stop (Run source tests steps) why mid says stops less = absurd (one_order words (Run source tests steps) (Repair o) says asked.says)

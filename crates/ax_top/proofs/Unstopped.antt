@@ -1,5 +1,5 @@
 -- What stops an order that is asked: want of memory, or a read that failed.
-use Rattle.std.proofs.Common.{◌≡◌, ◌∙◌, ◌≤◌, ◌<◌, ◌-◌, ℕ, Bool, true, false, List, [], ◌∷◌, length, Some, None, ap, refl, sym, subst, inl, inr, string_bytes, arith}
+use Rattle.std.proofs.Common.{◌≡◌, ◌∙◌, ◌<◌, ◌-◌, ℕ, Bool, true, false, List, [], ◌∷◌, Some, None, ap, refl, sym, subst, string_bytes, arith}
 use Rattle.std.specs.Prelude.{Option, Err, if◌then◌else◌, nat_lt, option_and_then, option_map}
 use Rattle.std.proofs.lemmas.Option.{none-some, slice_get_within}
 use Rattle.ax_prog.specs.declared.Program.{Program}
@@ -8,30 +8,24 @@ use Rattle.ax_prog.specs.declared.SlotId.{SlotId}
 use Rattle.ax_prog.specs.declared.Suite.{Suite}
 use Rattle.ax_prog.specs.declared.Test.{Test}
 use Rattle.ax_prog.specs.Candidates.{candidates_of}
-use Rattle.ax_front.specs.Texts.{IsProgramOfText, KeepsLimits}
-use Rattle.ax_front.specs.declared.SourceFault.{SourceFault}
-use Rattle.ax_front.specs.declared.SourceFault.TheVariants as front
-use Rattle.ax_suite.specs.Suites.{Reads}
-use Rattle.ax_suite.proofs.Single.{suites_have_no_fault}
-use Rattle.ax_outside.specs.Seen.{NoLess, OnKept, Rose, Seen, Told}
+use Rattle.ax_outside.specs.Seen.{Seen}
 use Rattle.ax_rank_coverage.specs.Handed.{Handed, ranker_at, ranker_named}
 use Rattle.ax_rank_coverage.specs.Orders.{OneCandidateOrder}
 use Rattle.ax_words.specs.Laws.{SameChoice, SameRepair}
 use Rattle.ax_words.specs.declared.order.Choice.{Choice}
 use Rattle.ax_words.specs.declared.order.Choice.TheVariants.{Pick, Top}
 use Rattle.ax_words.specs.declared.order.RepairOrder.{RepairOrder}
-use Rattle.ax_top.specs.declared.files.File.TheVariants as file
 use Rattle.ax_top.specs.declared.files.Stop.{Stop}
 use Rattle.ax_top.specs.declared.files.Stop.TheVariants as stop
 use Rattle.ax_top.specs.Built.{are_comparisons, candidate_at, chosen_of, only, small_slot}
 use Rattle.ax_top.specs.Choices.{IsChoice}
-use Rattle.ax_top.specs.Complete.{IsAsked, IsCutOff, fails_to_read, wants_memory}
-use Rattle.ax_top.specs.Files.{IsLong, limit_of}
-use Rattle.ax_top.specs.Judging.{HasFault, Refuses, StopsAtFiles, StopsAtSource, StopsAtTests, at_source, at_tests}
+use Rattle.ax_top.specs.Complete.{IsAsked, IsCutOff, wants_memory}
+use Rattle.ax_top.specs.Judging.{StopsAtFiles}
 use Rattle.ax_top.specs.Orders.{LacksRanker, PicksJudged, RepairRefused, at_files, at_picks, at_ranker, candidate_count, first_beyond, numbers_of}
 use Rattle.ax_top.specs.Repairs.{RepairStops, memory, refused, unbuilt}
 use Rattle.ax_top.specs.Reports.{stop_status}
-use Rattle.ax_top.proofs.Asked.{chosen-there, same-program, same-tests, source-told, tests-told}
+use Rattle.ax_top.proofs.Asked.{chosen-there, same-program, same-tests}
+use Rattle.ax_top.proofs.Filed.{by-files as stopped-at-files}
 
 -- ---- picked numbers
 
@@ -86,17 +80,6 @@ has-ranker rankers program tests steps (Top count formula) (Top number name) num
     let none : ranker_named rankers (string_bytes name) ≡ None = rw gone refl in
     none-some is.0 (sym none ∙ is.1)
 
--- ---- faults
-
-unfaulted : (bytes : List ℕ) (program : Program) (fault : SourceFault) → Refuses fault → HasFault bytes fault → KeepsLimits bytes → IsProgramOfText bytes program → ⊥
-unfaulted bytes program front.Memory r h keeps is = r
-unfaulted bytes program (front.Lex fault) r h keeps is = h.none keeps program is
-unfaulted bytes program (front.Parse fault) r h keeps is = h.none keeps program is
-unfaulted bytes program (front.«Type» fault) r h keeps is = h.none keeps program is
-
-not-long : (n most : ℕ) → n ≤ most → most < n → ⊥
-not-long n most short long = omega arith
-
 -- ---- stops
 
 module _ (law : OneCandidateOrder) (old new : Seen) (rankers : List Handed) (words : List (List ℕ)) (o : RepairOrder) (program : Program) (suite : Suite) (chosen : List SlotId)
@@ -104,49 +87,11 @@ module _ (law : OneCandidateOrder) (old new : Seen) (rankers : List Handed) (wor
   abbrev CutOff : Stop → Type 0
   CutOff why = IsCutOff old new o (stop_status why)
 
-  told-source : old.kept (string_bytes it.source) ≡ Some (Some asked.source)
-  told-source = source-told law old rankers words o program suite chosen asked it same
-
-  told-tests : old.kept (string_bytes it.tests) ≡ Some (Some asked.tests)
-  told-tests = tests-told law old rankers words o program suite chosen asked it same
-
-  by-source : (why : Stop) → StopsAtSource old new (string_bytes it.source) why → CutOff why
-  by-source stop.Memory h = wants_memory refl
-  by-source (stop.ReadFailed file.Source) h = fails_to_read refl (inl (subst (λ (name : List ℕ). Rose (old.reads name) (new.reads name)) same.source h))
-  by-source (stop.ReadFailed file.Tests) h = absurd h
-  by-source (stop.ReadFailed file.Cert) h = absurd h
-  by-source (stop.TooLong file.Source) h =
-      absurd (not-long (length asked.source) (limit_of file.Source) asked.source_short (subst (λ (t : Told). IsLong t file.Source) told-source h))
-  by-source (stop.TooLong file.Tests) h = absurd h
-  by-source (stop.TooLong file.Cert) h = absurd h
-  by-source (stop.Source fault) h =
-      let here = subst (λ (t : Told). OnKept t (λ source. (length source ≤ limit_of file.Source) × HasFault source fault)) told-source h.1 in
-      absurd (unfaulted asked.source program fault h.0 here.1 asked.limits asked.spelled)
-  by-source stop.NotBuilt h = absurd h
-  by-source (stop.Suite fault) h = absurd h
-  by-source stop.NoRanker h = absurd h
-  by-source (stop.NoCandidate picked count) h = absurd h
-
-  by-tests : (why : Stop) → StopsAtTests old new (string_bytes it.tests) why → CutOff why
-  by-tests stop.Memory h = wants_memory refl
-  by-tests (stop.ReadFailed file.Tests) h = fails_to_read refl (inr (subst (λ (name : List ℕ). Rose (old.reads name) (new.reads name)) same.tests h))
-  by-tests (stop.ReadFailed file.Source) h = absurd h
-  by-tests (stop.ReadFailed file.Cert) h = absurd h
-  by-tests (stop.TooLong file.Tests) h =
-      absurd (not-long (length asked.tests) (limit_of file.Tests) asked.tests_short (subst (λ (t : Told). IsLong t file.Tests) told-tests h))
-  by-tests (stop.TooLong file.Source) h = absurd h
-  by-tests (stop.TooLong file.Cert) h = absurd h
-  by-tests (stop.Suite fault) h =
-      let here = subst (λ (t : Told). OnKept t (λ tests. (length tests ≤ limit_of file.Tests) × Reads tests (Err fault))) told-tests h.1 in
-      absurd (h.0 (suites_have_no_fault asked.tests suite.tests fault asked.tested here.1))
-  by-tests (stop.Source fault) h = absurd h
-  by-tests stop.NotBuilt h = absurd h
-  by-tests stop.NoRanker h = absurd h
-  by-tests (stop.NoCandidate picked count) h = absurd h
-
   by-files : (why : Stop) → StopsAtFiles old new (string_bytes it.source) (string_bytes it.tests) why → CutOff why
-  by-files why (at_source h) = by-source why h
-  by-files why (at_tests fine h) = by-tests why h
+  by-files why h =
+      let there = subst (λ (name : List ℕ). StopsAtFiles old new name (string_bytes it.tests) why) same.source h in
+      stopped-at-files old (string_bytes o.source) (string_bytes o.tests) program suite asked.files new why
+      (subst (λ (name : List ℕ). StopsAtFiles old new (string_bytes o.source) name why) same.tests there)
 
   picks-here : PicksOne program asked.numbers
   picks-here = picks-one program o.sets asked.numbers chosen asked.is_chosen.built
@@ -186,13 +131,3 @@ module _ (law : OneCandidateOrder) (old new : Seen) (rankers : List Handed) (wor
       let there = chosen-there law old rankers words o program suite chosen asked it same p s.tests un.numbers program-is tests-are un.choice in
       absurd (none-some chosen (sym un.none ∙ there))
   cut-off why (memory e) = wants_memory (ap stop_status e)
-
--- ---- after more calls
-
-risen : (before mid now : ℕ) → Rose before mid → mid ≤ now → Rose before now
-risen before mid now rose less = omega arith
-
-pub cut-off-later : (old mid new : Seen) (o : RepairOrder) (status : ℕ) → NoLess mid new → IsCutOff old mid o status → IsCutOff old new o status
-cut-off-later old mid new o status less (wants_memory e) = wants_memory e
-cut-off-later old mid new o status less (fails_to_read e (inl rose)) = fails_to_read e (inl (risen _ _ _ rose (less.reads (string_bytes o.source))))
-cut-off-later old mid new o status less (fails_to_read e (inr rose)) = fails_to_read e (inr (risen _ _ _ rose (less.reads (string_bytes o.tests))))

@@ -2,7 +2,7 @@
 ghost use Rattle.std.specs.Prelude.{map, string_bytes};
 ghost use Rattle.ax_rank_coverage.specs.Handed.{handed};
 ghost use Rattle.ax_top.specs.Causes.{Does, Keeps, OrderStopped, WordsRefused};
-ghost use Rattle.ax_top.specs.Complete.{Complete};
+ghost use Rattle.ax_top.specs.Complete.{Complete, CompleteReports};
 ghost use Rattle.ax_top.specs.Headline.{Headline};
 ghost use Rattle.ax_top.specs.Proving.{Proving};
 
@@ -83,6 +83,7 @@ pub fn angelix<S: Shelf>(
     ensures does { Does (S.seen shelf.old) (S.seen shelf.new) (map (λ r. handed (title r) (runs r) (formula r)) rankers.items) (map string_bytes words.items) result }
     ensures headline { Headline (S.seen shelf.old) (S.seen shelf.new) (map (λ r. handed (title r) (runs r) (formula r)) rankers.items) (map string_bytes words.items) result }
     ensures complete { Complete (S.seen shelf.old) (S.seen shelf.new) (map (λ r. handed (title r) (runs r) (formula r)) rankers.items) (map string_bytes words.items) result }
+    ensures reporting { CompleteReports (S.seen shelf.old) (S.seen shelf.new) (map (λ r. handed (title r) (runs r) (formula r)) rankers.items) (map string_bytes words.items) result }
     ensures proving { Proving (S.seen shelf.old) (S.seen shelf.new) (map string_bytes words.items) result }
     ensures keeps { Keeps (S.seen shelf.old) (S.seen shelf.new) (map string_bytes words.items) }
 {

@@ -2,6 +2,7 @@ use Rattle.ax_top.proofs.Completing.{complete}
 use Rattle.ax_top.proofs.Grown.{grows-little}
 use Rattle.ax_top.proofs.Promises.{headline, keeps}
 use Rattle.ax_top.proofs.Proofs.{proving}
+use Rattle.ax_top.proofs.Reporting.{reports-complete}
 use Rattle.ax_top.proofs.Rows.{answered-does, proves-does, refused-does, stopped-does}
 use Rattle.ax_top.proofs.call.angelix.Goals as goal
 
@@ -19,11 +20,17 @@ returns-in-Err-result_of-clause-does g c =
 pub returns-in-Err-clause-complete : goal.returns-in-Err-clause-complete
 returns-in-Err-clause-complete g c = complete c.one_candidate_order.ensures _ _ _ _ _ (returns-in-Err-clause-does g c)
 
+pub returns-in-Err-clause-reporting : goal.returns-in-Err-clause-reporting
+returns-in-Err-clause-reporting g c = reports-complete _ _ _ _ _ (returns-in-Err-clause-does g c)
+
 pub returns-in-Err-result_of-clause-headline : goal.returns-in-Err-result_of-clause-headline
 returns-in-Err-result_of-clause-headline g c = headline _ _ _ _ _ (returns-in-Err-result_of-clause-does g c)
 
 pub returns-in-Err-result_of-clause-complete : goal.returns-in-Err-result_of-clause-complete
 returns-in-Err-result_of-clause-complete g c = complete c.one_candidate_order.ensures _ _ _ _ _ (returns-in-Err-result_of-clause-does g c)
+
+pub returns-in-Err-result_of-clause-reporting : goal.returns-in-Err-result_of-clause-reporting
+returns-in-Err-result_of-clause-reporting g c = reports-complete _ _ _ _ _ (returns-in-Err-result_of-clause-does g c)
 
 pub returns-clause-does : goal.returns-clause-does
 returns-clause-does g c =
@@ -37,6 +44,9 @@ returns-clause-headline g c = headline _ _ _ _ _ (returns-clause-does g c)
 
 pub returns-clause-complete : goal.returns-clause-complete
 returns-clause-complete g c = complete c.one_candidate_order.ensures _ _ _ _ _ (returns-clause-does g c)
+
+pub returns-clause-reporting : goal.returns-clause-reporting
+returns-clause-reporting g c = reports-complete _ _ _ _ _ (returns-clause-does g c)
 
 pub returns-clause-keeps : goal.returns-clause-keeps
 returns-clause-keeps g c = keeps _ _ _ _ _ (returns-clause-does g c)
@@ -58,6 +68,9 @@ returns-in-Ok-Prove-clause-headline g c = headline _ _ _ _ _ (returns-in-Ok-Prov
 
 pub returns-in-Ok-Prove-clause-complete : goal.returns-in-Ok-Prove-clause-complete
 returns-in-Ok-Prove-clause-complete g c = complete c.one_candidate_order.ensures _ _ _ _ _ (returns-in-Ok-Prove-clause-does g c)
+
+pub returns-in-Ok-Prove-clause-reporting : goal.returns-in-Ok-Prove-clause-reporting
+returns-in-Ok-Prove-clause-reporting g c = reports-complete _ _ _ _ _ (returns-in-Ok-Prove-clause-does g c)
 
 pub returns-in-Ok-Prove-clause-proving : goal.returns-in-Ok-Prove-clause-proving
 returns-in-Ok-Prove-clause-proving g c = proving _ _ _ _ _ (returns-in-Ok-Prove-clause-does g c)
