@@ -264,8 +264,8 @@ fn suites_and_numbers_are_judged(rt: HostRuntime) -> Result<(), Fail> {
     Ok(())
 }
 
-// Ways in which an order isn't built: another set, two numbers, and four binary operators.
-const UNBUILT: [Row; 5] = [
+// Ways in which an order isn't built: another set, two numbers, four binary operators, a unary operator, and `?:`.
+const UNBUILT: [Row; 8] = [
     (
         "repair s t o c --top 2 --with cmp",
         SOURCE,
@@ -291,6 +291,27 @@ const UNBUILT: [Row; 5] = [
     (
         "repair s t o c --pick 1 --with cmp",
         "int main() { if ((1 + (2 + 3)) < (4 + 5)) printf(\"%d\", 1); return 0; }",
+        "[]",
+        11,
+        "not built\n",
+    ),
+    (
+        "repair s t o c --pick 1 --with cmp",
+        "int main() { if (!(1 < 2)) printf(\"%d\", 1); return 0; }",
+        "[]",
+        11,
+        "not built\n",
+    ),
+    (
+        "repair s t o c --pick 1 --with cmp",
+        "int main() { if (1 < -2) printf(\"%d\", 1); return 0; }",
+        "[]",
+        11,
+        "not built\n",
+    ),
+    (
+        "repair s t o c --pick 1 --with cmp",
+        "int main() { if (1?1?1?1?1?1?1?1?1?1?1:0:0:0:0:0:0:0:0:0:0) printf(\"%d\", 1); return 0; }",
         "[]",
         11,
         "not built\n",

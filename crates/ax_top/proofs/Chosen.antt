@@ -30,7 +30,7 @@ use Rattle.ax_top.specs.declared.answer.Answer.{Answer}
 use Rattle.ax_top.specs.declared.built.Picked.{Picked}
 use Rattle.ax_top.specs.declared.files.Stop.{Stop}
 use Rattle.ax_top.specs.declared.files.Stop.TheVariants as stop
-use Rattle.ax_top.specs.Built.{IsPicked, are_comparisons, built_slot, candidate_at, chosen_of, has_few, only, small_slot}
+use Rattle.ax_top.specs.Built.{IsPicked, are_comparisons, built_slot, candidate_at, chosen_of, is_small, only, small_slot}
 use Rattle.ax_top.specs.Choices.{ChoosesNumbers}
 use Rattle.ax_top.specs.Orders.{RepairIsFine}
 use Rattle.ax_top.specs.Repairs.{Answered, IsAnswer, IsMended, RepairEnds, Searched, memory, repaired_report, unbuilt}
@@ -64,7 +64,7 @@ not-true false h = refl
 from-small : (program : Program) (found : Option SlotId) (id : SlotId) → option_and_then (small_slot program) found ≡ Some id → found ≡ Some id
 from-small program None id h = absurd (cc)
 from-small program (Some x) id h =
-    ap (λ (y : SlotId). Some y) (if-some (has_few (tree_at program x)) x id h).1
+    ap (λ (y : SlotId). Some y) (if-some (is_small (tree_at program x)) x id h).1
 
 -- the sets of an order that is built, and what is known of its slot
 record Opens (program : Program) (sets : Bool) (number : ℕ) (id : SlotId) : Type 0 where

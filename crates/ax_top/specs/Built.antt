@@ -1,5 +1,5 @@
 -- Which orders to repair are built, and the expressions that they choose.
-use Rattle.std.specs.Prelude.{◌≡◌, ℕ, ◌+◌, ◌-◌, nat_le, Bool, false, ◌&&◌, not, if◌then◌else◌, List, [], ◌∷◌, Option, None, Some, option_map, option_and_then, slice_get}
+use Rattle.std.specs.Prelude.{◌≡◌, ℕ, ◌+◌, ◌-◌, nat_le, Bool, false, true, ◌&&◌, not, if◌then◌else◌, List, [], ◌∷◌, Option, None, Some, option_map, option_and_then, slice_get}
 use Rattle.ax_prog.specs.declared.Expr.{Expr, Num, Atom', Un', Bin', Cond'}
 use Rattle.ax_prog.specs.declared.Atom.TheBlock.{more_of-Expr, end_of-Expr}
 use Rattle.ax_prog.specs.declared.Sets.{Sets}
@@ -18,13 +18,22 @@ binaries (Un' op s (more_of-Expr a end_of-Expr)) = binaries a
 binaries (Bin' op s (more_of-Expr a end_of-Expr) t (more_of-Expr b end_of-Expr)) = binaries a + binaries b + 1
 binaries (Cond' s (more_of-Expr f end_of-Expr) t (more_of-Expr a end_of-Expr) u (more_of-Expr b end_of-Expr)) = binaries f + binaries a + binaries b
 
-abbrev pub has_few : Option Expr → Bool
-has_few None = false
-has_few (Some tree) = nat_le (binaries tree) 3
+-- no node of the tree is a unary operator or a `?:`
+abbrev pub is_plain : Expr → Bool
+is_plain (Num n) = true
+is_plain (Atom' s row) = true
+is_plain (Un' op s row) = false
+is_plain (Bin' op s (more_of-Expr a end_of-Expr) t (more_of-Expr b end_of-Expr)) = is_plain a && is_plain b
+is_plain (Cond' s f t a u b) = false
 
--- the slot, where its tree has at most three binary operators
+-- the nodes of a small tree are atoms, numbers and at most three binary operators
+abbrev pub is_small : Option Expr → Bool
+is_small None = false
+is_small (Some tree) = is_plain tree && nat_le (binaries tree) 3
+
+-- the slot, where its tree is small
 abbrev pub small_slot : Program → SlotId → Option SlotId
-small_slot program id = if has_few (tree_at program id) then Some id else None
+small_slot program id = if is_small (tree_at program id) then Some id else None
 
 -- the slot of the candidate of that number, from 1
 abbrev pub candidate_at : Program → ℕ → Option SlotId
@@ -42,8 +51,7 @@ are_comparisons s =
     s.cmp && (not s.logic && (not s.arith && (not s.mul && (not s.bits && (not s.vars && (not s.consts && not s.guard))))))
 
 -- The slot that is to be changed, where an order is built that takes these sets and chooses these numbers: it takes the
--- comparisons alone and chooses one number, that of a candidate that has at most three binary operators. Of any other order
--- there is none.
+-- comparisons alone and chooses one number, that of a candidate whose tree is small. Of any other order there is none.
 abbrev pub built_slot : Program → Sets → List ℕ → Option SlotId
 built_slot program sets numbers =
     if are_comparisons sets

@@ -1,6 +1,6 @@
 //! Which orders to repair are built.
 ghost use Rattle.std.specs.Prelude.{◌≡◌, ◌∷◌, [], ◌-◌, ◌^◌, min, nat_le, option_and_then, None, IfOk, MatchOption};
-ghost use Rattle.ax_top.specs.Built.{IsPicked, are_comparisons, binaries, built_slot, candidate_at, only, small_slot};
+ghost use Rattle.ax_top.specs.Built.{IsPicked, are_comparisons, binaries, built_slot, candidate_at, is_plain, only, small_slot};
 
 use ax_prog::{Expr, Program, Sets, SlotId};
 use std::alloc::{AllocError, Global};
@@ -32,20 +32,34 @@ fn capped(n: u64) -> u32
     if n < 4294967295 { n as u32 } else { 4294967295 }
 }
 
+// Whether no node is a unary operator or a `?:`.
+#[tactic(auto, using(crate::proofs::Binaries::plain_layers))]
+fn is_plain(tree: &Expr) -> bool
+    ensures { result ≡ is_plain tree.now }
+{
+    match tree {
+        Expr::Num(_) => true,
+        Expr::Atom(_) => true,
+        Expr::Un(_, _) => false,
+        Expr::Bin(_, a, b) => is_plain(a.get()) && is_plain(b.get()),
+        Expr::Cond(_, _, _) => false,
+    }
+}
+
 fn has_few_binaries(tree: &Expr) -> bool
     ensures { result ≡ nat_le (binaries tree.now) 3 }
 {
     binary_count(tree) <= 3
 }
 
-// The slot, where its tree has at most three binary operators.
+// The slot, where its tree is small.
 fn small(program: &Program, id: SlotId) -> Option<SlotId>
     ensures { result ≡ small_slot program.now id }
 {
     match program.slots.get(id.0 as usize) {
         None => None,
         Some(slot) => {
-            if has_few_binaries(&slot.expr) {
+            if is_plain(&slot.expr) && has_few_binaries(&slot.expr) {
                 Some(id)
             } else {
                 None
@@ -109,8 +123,8 @@ pub struct Picked {
     pub slot: SlotId,
 }
 
-/// What is chosen, where an order is built that takes these sets and chooses these numbers: one candidate of at most
-/// three binary operators, and comparisons alone.
+/// What is chosen, where an order is built that takes these sets and chooses these numbers: one candidate whose nodes are
+/// atoms, numbers and at most three binary operators, and comparisons alone.
 pub fn picked_of(
     alloc: Global,
     sets: &Sets,

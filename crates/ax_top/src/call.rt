@@ -70,10 +70,10 @@ fn refuse_order<S: Shelf>(alloc: Global, order: &Order, stop: Stop, shelf: &mut 
 /// at 7 after a put that failed, nothing is. No name of the shelf but OUT or PROOF
 /// changes, OUT at 0 and 7 alone, and PROOF at 0, 7 and 9.
 ///
-/// An order to repair is built where it takes `cmp` alone and chooses one candidate of at most three binary operators.
-/// Where it picks none, it chooses the first ones in the order of suspicion, by the first ranker of the name that it
-/// needs. That ranker sees the run of each test, and no other ranker sees a run. All rankers are dropped before the call
-/// answers.
+/// An order to repair is built where it takes `cmp` alone and chooses one candidate whose nodes are atoms, numbers and at
+/// most three binary operators. Where it picks none, it chooses the first ones in the order of suspicion, by the first
+/// ranker of the name that it needs. That ranker sees the run of each test, and no other ranker sees a run. All rankers are
+/// dropped before the call answers.
 pub fn angelix<S: Shelf>(
     alloc: Global,
     words: Vec<String>,
